@@ -18,10 +18,6 @@ use Rattle.audit.proofs.Printing.{texts_from-append, lines-push, texts-many, lin
 
 -- ---- how far
 
--- nothing has been read yet
-pub read-start : (bytes : List ℕ) → IsReadTo bytes bytes []
-read-start bytes = record { lines = refl; text = inl refl }
-
 -- what has been read is not too long
 pub read-few : (bytes rest : List ℕ) (history : List Entry) → IsReadTo bytes rest history → length bytes < 2 ^ 32
     → length history + 1 < 2 ^ 32

@@ -1,5 +1,5 @@
 -- A book in which nothing has happened is lawful.
-use Rattle.std.proofs.Common.{◌≡◌, ◌≤◌, ◌<◌, ◌^◌, ◌++◌, ◌∷◌, ℕ, List, [], All, IfSome, None, Some, Option, length, replicate, get_or, refl, sym, ◌∙◌, ap, subst, arith, length-append, is_some, true≢false, zero, suc}
+use Rattle.std.proofs.Common.{◌≡◌, ◌≤◌, ◌^◌, ◌++◌, ◌∷◌, ℕ, List, [], All, IfSome, None, Some, Option, length, replicate, refl, sym, ◌∙◌, ap, subst, arith, length-append, is_some, true≢false, zero, suc}
 use Rattle.std.proofs.lemmas.List.{length-replicate}
 use Rattle.mw_types.specs.declared.entry.Entry.{Entry}
 use Rattle.row_keeper.specs.Rows.{Rows}

@@ -8,13 +8,13 @@ use Rattle.std.proofs.lemmas.List.FromFn.{map-range_with_len_more}
 use Rattle.mw_types.specs.declared.kind.Kind.{Kind}
 use Rattle.mw_types.specs.declared.kind.Kind.TheVariants.{Count, Spike, Pass}
 use Rattle.mw_types.specs.declared.state.State.TheVariants.{Injector}
-use Rattle.topology.specs.Shapes.{kind_of, injectors_of}
+use Rattle.topology.specs.Shapes.{kind_of}
 use Rattle.computations.specs.Handlers.{fresh_state}
 use Rattle.row_parts.specs.Contents.{cursor_in}
 use Rattle.run_history.specs.Cases.{CaseShape, source_of}
 use Rattle.run_history.specs.Runs.{empty_run}
 use Rattle.run_history.specs.Watermarks.{cursor_of}
-use Rattle.run_history.specs.Finished.{has_line, unfinished}
+use Rattle.run_history.specs.Finished.{has_line}
 
 -- nothing is injected before any entry
 cursor-none : (case : CaseShape) (part : ℕ) → cursor_of case empty_run part ≡ 0
@@ -59,11 +59,3 @@ before-more case part b is =
 pub one-small : (b : Bool) → cond b 1 0 ≤ 1
 one-small true = omega arith
 one-small false = omega arith
-
--- all injectors
-pub unfinished-first : (case : CaseShape) (part : ℕ) → part ≡ injectors_of case.topology
-    → lines_before case part ≡ unfinished case empty_run
-unfinished-first case part all = ap (lines_before case) all ∙ added (lines_before case (injectors_of case.topology))
-  where
-    added : (n : ℕ) → n ≡ 0 + 0 + n
-    added n = omega arith

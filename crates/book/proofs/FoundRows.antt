@@ -14,7 +14,7 @@ use Rattle.mw_types.specs.declared.entry.Entry.{Entry}
 use Rattle.key_intervals.specs.declared.bounds.Bounds.{Bounds}
 use Rattle.key_intervals.specs.Intervals.{covers, rows_covered}
 use Rattle.row_parts.specs.Contents.{Contents}
-use Rattle.row_parts.specs.Spelling.{spelling_of, IsSpelledRow}
+use Rattle.row_parts.specs.Spelling.{spelling_of}
 use Rattle.row_keeper.specs.Rows.{Rows, AreInOrder, entry_of}
 use Rattle.row_keeper.specs.declared.keeper.KeptRow.{KeptRow}
 use Rattle.run_history.specs.Cases.{CaseShape, intervals_of}
@@ -79,15 +79,6 @@ kept-at case number found rows i kept each same within at =
         ),
       ),
     )
-
--- nothing is read at first
-pub IsRead-none : (case : CaseShape) (number : ℕ) (found : List KeptRow) (done : List NamedRow) → done ≡ []
-    → IsRead case number found done 0
-IsRead-none case number found done none = record {
-  kept = subst (λ (l : List NamedRow). AllByRecursion (IsKeepable case number) (map named l)) (sym none) tt;
-  bytes = ap (map bytes_named) none;
-  only = λ rows each same. ap (map named) none;
-}
 
 -- what holds of each of a list and of one more holds of each
 each-push : {X : Type 0} (P : X → Type 0) (xs : List X) (x : X) → AllByRecursion P xs → P x → AllByRecursion P (xs ++ x ∷ [])
@@ -284,13 +275,3 @@ IsDamaged-result book interval found shown case number (Err why) lawful there wi
     (ap (map entry_of) same_found ∙ same))
     (λ name bytes is row kept. damaged name bytes (ap Err is) row
     (subst (λ (p : CaseShape × ℕ). IsKeepable p.0 p.1 (name, row)) (λ i. (sym same_case i, sym same_number i)) kept))
-
--- a row that was decoded under a name can be kept
-pub kept-of : (case : CaseShape) (number : ℕ) (kept : KeptRow) (row : Contents) (r : NamedRow) → named r ≡ (kept.name, row)
-    → IsSpelledRow row → fits case number kept.name row ≡ true → IsKeepable case number (named r)
-kept-of case number kept row r is spelled fit = subst (IsKeepable case number) (sym is) (record { spelled = spelled; fit = fit })
-
--- and has the bytes that were decoded
-pub bytes-of : (kept : KeptRow) (row : Contents) (r : NamedRow) → named r ≡ (kept.name, row) → kept.bytes ≡ spelling_of row
-    → bytes_named r ≡ entry_of kept
-bytes-of kept row r is bytes = ap spelled is ∙ (λ i. (kept.name, sym bytes i))

@@ -1,11 +1,11 @@
 -- A row to whose pending deliveries those of an entry are added, one after another.
-use Rattle.std.proofs.Common.{◌≡◌, ◌≤◌, ◌∙◌, List, [], ◌∷◌, ◌++◌, sym, ap, subst, append_assoc, append-nil}
+use Rattle.std.proofs.Common.{◌≡◌, ◌≤◌, List, [], ◌∷◌, ◌++◌, sym, subst}
 use Rattle.std.specs.Prelude.{All}
 use Rattle.std.specs.List.{AllByRecursion}
 use Rattle.std.specs.List.Sorted.{IsStrictlySortedBy}
 use Rattle.std.specs.declared.cmp.Ordering.{Ordering}
 use Rattle.std.specs.declared.cmp.Ordering.TheVariants.{Less}
-use Rattle.std.proofs.lemmas.List.Elements.{All-from_recursion, recursion_from_All}
+use Rattle.std.proofs.lemmas.List.Elements.{All-from_recursion}
 use Rattle.list_lemmas.proofs.Places.{each-behind}
 use Rattle.mw_types.specs.declared.TheConstants.{MAX_STAMP}
 use Rattle.mw_types.specs.declared.delivery.Delivery.{Delivery}
@@ -26,16 +26,6 @@ below-place R [] d ys sorted = tt
 below-place R (x ∷ xs) d ys sorted =
     ((each-behind (λ y. R x y ≡ Less) xs (d ∷ ys) sorted.0).0, below-place R xs d ys sorted.1)
 
--- at first all are left
-pub growing-first : (row : Contents) (all left : List Delivery) → left ≡ all → All (λ (d : Delivery). IsId d.id) all
-    → All (λ (d : Delivery). d.item.stamp ≤ MAX_STAMP) all → IsGrowing row row all left
-growing-first row all left is ids stamps = record {
-  same = ap (λ l. record row { pending = row.pending ++ l }) is;
-  ids = subst (AllByRecursion (λ (d : Delivery). IsId d.id)) (sym is) (recursion_from_All (λ (d : Delivery). IsId d.id) all ids);
-  stamps = subst (AllByRecursion (λ (d : Delivery). d.item.stamp ≤ MAX_STAMP)) (sym is)
-      (recursion_from_All (λ (d : Delivery). d.item.stamp ≤ MAX_STAMP) all stamps);
-}
-
 -- all that is pending is below the next
 pub growing-above : (row grown : Contents) (all : List Delivery) (d : Delivery) (left : List Delivery) → IsGrowing row grown all (d ∷ left)
     → IsStrictlySortedBy delivery_cmp (row.pending ++ all) → All (λ (x : Delivery). delivery_cmp x d ≡ Less) grown.pending
@@ -43,18 +33,3 @@ growing-above row grown all d left growing sorted =
     All-from_recursion (λ (x : Delivery). delivery_cmp x d ≡ Less) grown.pending
     (below-place delivery_cmp grown.pending d left
     (subst (λ (c : Contents). IsStrictlySortedBy delivery_cmp c.pending) (sym growing.same) sorted))
-
--- the next is pending too
-pub growing-next : (row grown more : Contents) (all : List Delivery) (d : Delivery) (left : List Delivery)
-    → IsGrowing row grown all (d ∷ left) → more ≡ record grown { pending = grown.pending ++ d ∷ [] } → IsGrowing row more all left
-growing-next row grown more all d left growing is = record {
-  same = ap (λ (c : Contents). record c { pending = c.pending ++ left }) is
-      ∙ ap (λ l. record grown { pending = l }) (append_assoc grown.pending (d ∷ []) left) ∙ growing.same;
-  ids = growing.ids.1;
-  stamps = growing.stamps.1;
-}
-
--- at last none is left
-pub growing-last : (row grown : Contents) (all : List Delivery) → IsGrowing row grown all []
-    → grown ≡ record row { pending = row.pending ++ all }
-growing-last row grown all growing = sym (ap (λ l. record grown { pending = l }) (append-nil grown.pending)) ∙ growing.same

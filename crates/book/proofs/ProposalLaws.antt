@@ -144,14 +144,6 @@ cursor-moves lines (states.Count late windows) within less = absurd cc
 cursor-moves lines (states.Spike late held known) within less = absurd cc
 cursor-moves lines (states.Pass late) within less = absurd cc
 
--- what such an injector's state is
-pub advanced-is : (lines : ℕ) (state : State) (line : ℕ) → is_cursor_within lines state ≡ true → line ≡ cursor_in state
-    → states.Injector (line + 1) ≡ advanced state
-advanced-is lines (states.Injector cursor) line within same = ap (λ n. states.Injector (n + 1)) same
-advanced-is lines (states.Count late windows) line within same = absurd cc
-advanced-is lines (states.Spike late held known) line within same = absurd cc
-advanced-is lines (states.Pass late) line within same = absurd cc
-
 -- what is pending with what was sent
 pending-fits : (shape : Shape) (n part : ℕ) (productions : List Production) (late : Bool) (pending : List Delivery)
     → list_all (is_sent_before shape n) pending ≡ true

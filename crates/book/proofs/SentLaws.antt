@@ -19,7 +19,7 @@ use Rattle.topology.specs.declared.subscription.Subscription.{Subscription}
 use Rattle.topology.specs.Shapes.{Shape, ComputationShape, Reading, consumers_of, subscriptions_to, stream_of, injectors_of, parts_of}
 use Rattle.row_parts.specs.Contents.{IsId, delivery_cmp}
 use Rattle.run_history.specs.Made.{deliveries_made, delivery_at, sends_of, produced, row_to}
-use Rattle.list_lemmas.proofs.Lists.{each-all, each-map, each-weaker, each-both, each-flat_map, each-enumerate, sorted-append}
+use Rattle.list_lemmas.proofs.Lists.{each-all, each-map, each-weaker, each-both, sorted-append}
 use Rattle.history_laws.proofs.Made.{each_of_commit, deliveries_made-each}
 use Rattle.history_laws.proofs.IdLaws.{made-ascend, across}
 use Rattle.run_history.specs.Fits.{is_sent_before}

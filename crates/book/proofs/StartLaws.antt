@@ -1,7 +1,7 @@
 -- A book in which nothing has happened.
-use Rattle.std.proofs.Common.{◌≡◌, ◌<◌, ◌≤◌, ◌+◌, ℕ, List, [], ◌∷◌, length, take, refl, sym, ◌∙◌, ap, subst, get_or}
+use Rattle.std.proofs.Common.{◌≡◌, ◌<◌, ◌+◌, ℕ, List, [], ◌∷◌, length, take, refl, sym, ◌∙◌, ap, subst, get_or}
 use Rattle.std.specs.Prelude.{Option, Some, None, IfSome, All, slice_get, option_map}
-use Rattle.std.proofs.lemmas.List.{take_more, take_all}
+use Rattle.std.proofs.lemmas.List.{take_more}
 use Rattle.std.proofs.lemmas.List.Elements.{All-append, All-from_recursion}
 use Rattle.row_keeper.specs.Rows.{Rows, entry_of}
 use Rattle.row_keeper.specs.declared.keeper.KeptRow.{KeptRow}
@@ -26,7 +26,3 @@ first-none old new found same none first = subst (λ o. IfSome o (λ rows. rows 
     by_told : (o : Option Rows) → IfSome o (λ held. option_map entry_of found ≡ slice_get held 0) → IfSome o (λ rows. rows ≡ [])
     by_told None told = tt
     by_told (Some rows) told = by_rows rows (sym (ap (option_map entry_of) none) ∙ told)
-
--- what holds of all that was gone through
-pub All-whole : {X : Type 0} (P : X → Type 0) (xs : List X) (i : ℕ) → length xs ≤ i → All P (take i xs) → All P xs
-All-whole P xs i past done = subst (All P) (take_all i xs past) done

@@ -4,7 +4,7 @@ use Rattle.std.specs.List.{fold}
 use Rattle.std.specs.Option.{option_map_or}
 use Rattle.std.specs.Str.{bytes_eq}
 use Rattle.clap.specs.Lexer.{long_of, short_of}
-use Rattle.clap.specs.Walk.{Held, Outcome, Row, Rule, Step, Text, Waiting, Walk, after_flag, after_step, arg_by_id, arg_by_index, arg_by_long, finished, has_row, idle, is_empty, is_pending, long_or_other, long_met, long_word, option, option_word, plain_word, positional, positional_held, pushed, reacted, done, waits, settled, settled_rows, short_or_plain, takes_several, takes_values, to_positional, trailing, used, used_by_id, value, walk_from, walked, with_default, word_met, nothing_held}
+use Rattle.clap.specs.Walk.{Held, Outcome, Row, Rule, Step, Text, Waiting, Walk, after_flag, after_step, arg_by_id, arg_by_index, arg_by_long, finished, has_row, idle, is_pending, long_or_other, long_met, long_word, option, option_word, plain_word, positional, positional_held, pushed, reacted, done, waits, settled, settled_rows, short_or_plain, takes_several, takes_values, to_positional, trailing, used, used_by_id, value, walk_from, walked, with_default, word_met, nothing_held}
 use Rattle.clap.specs.Faults.{check_fault, defaults_fault, long_fault, option_fault, react_fault, positional_fault, settle_fault, step_fault, stray_fault, turn_fault, use_fault, walk_fault, word_fault}
 use Rattle.clap.specs.Kinds.{Kinds, or_else}
 use Rattle.clap.specs.declared.error.kind.ErrorKind.TheVariants as kind
@@ -25,10 +25,6 @@ fails_first (k ∷ ks) b h e = h e
 pub fails_then : (a b : Kinds) → Fails b → Fails (or_else a b)
 fails_then [] b h e = h e
 fails_then (k ∷ ks) b h e = cc
-
-pub some_fails : (kinds : Kinds) → is_empty kinds ≡ false → Fails kinds
-some_fails [] h e = true≢false h
-some_fails (k ∷ ks) h e = cc
 
 -- ---- the walk
 

@@ -1,7 +1,6 @@
 -- How many of some actions are of a round.
-use Rattle.std.proofs.Common.{◌≡◌, ◌∙◌, ◌<◌, ◌≤◌, ◌+◌, ◌*◌, ◌==◌, ◌++◌, ◌∷◌, ℕ, cond, List, [], length, filter, take, drop, ap, arith, length-append}
+use Rattle.std.proofs.Common.{◌≡◌, ◌∙◌, ◌<◌, ◌≤◌, ◌+◌, ◌*◌, ◌==◌, ◌++◌, ◌∷◌, ℕ, List, [], length, filter, take, drop, ap, arith, length-append}
 use Rattle.std.specs.Prelude.{get_or}
-use Rattle.std.proofs.lemmas.Bool.{eq-eqb}
 use Rattle.std.proofs.lemmas.List.{take-append-drop, take_more}
 use Rattle.std.proofs.lemmas.List.Elements.{filter-append}
 use Rattle.plans.specs.declared.action.Action.{Action}
@@ -29,10 +28,6 @@ acted-within round at actions =
     let all = ap (acted round) (take-append-drop at actions) in
     let parts = acted-append round (take at actions) (drop at actions) in
     omega (arith, all, parts)
-
--- an action of the round is one
-pub acted-one : (round : ℕ) (action : Action) → action.round ≡ round → acted round (action ∷ []) ≡ 1
-acted-one round action same = ap (λ b. length (cond b (action ∷ []) [])) (eq-eqb action.round round same)
 
 -- one action more is done
 pub act-more : {K J : Type 0} {g : Ghosts K} (round at : ℕ) (actions : List Action) (d : Action) (old mid new : List (Worker K J g))

@@ -98,7 +98,3 @@ gone-both m n old mid new one two = record {
       (in_append number one.added two.added here);
   faults = let a = one.faults in let b = two.faults in omega (arith, a, b);
 }
-
--- the same, within so many
-pub gone-then : (m n k : ℕ) (old mid new : DeskView) → m + n ≤ k → HasGoneOn m old mid → HasGoneOn n mid new → HasGoneOn k old new
-gone-then m n k old mid new less one two = gone-less (m + n) k old new less (gone-both m n old mid new one two)

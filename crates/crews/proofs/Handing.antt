@@ -1,9 +1,8 @@
 -- Passes that are handed out, and the mailboxes that they are of.
-use Rattle.std.proofs.Common.{inl, inr, ◌≡◌, ◌∙◌, ◌<◌, ◌+◌, ◌++◌, ◌∷◌, ℕ, zero, suc, List, [], length, refl, sym, ap, subst, arith, length-append}
-use Rattle.std.specs.Prelude.{All, slice_index_or, slice_set}
+use Rattle.std.proofs.Common.{inl, inr, ◌≡◌, ◌∙◌, ◌<◌, ◌+◌, ◌++◌, ◌∷◌, ℕ, zero, suc, List, [], length, refl, sym, subst, arith, length-append}
+use Rattle.std.specs.Prelude.{slice_index_or}
 use Rattle.std.proofs.lemmas.Bool.{cases_eq}
-use Rattle.std.proofs.lemmas.Grind.{get_or-set_at}
-use Rattle.std.proofs.lemmas.List.{get_or_append_left, get_or_at, get_or_default, get_or-set_other, length-set}
+use Rattle.std.proofs.lemmas.List.{get_or_append_left, get_or_at}
 use Rattle.crossbeam_queue.specs.Passes.{IsPassOf}
 use Rattle.mailboxes.specs.PassLists.{AllFrom, IsNewPass}
 use Rattle.mailboxes.specs.declared.mailbox.Mailbox.{Mailbox}
@@ -19,44 +18,7 @@ handed-not made old = record {
   rest = λ at d from. refl;
 }
 
--- one more list gets what is at its place
-pub handed-more : {X : Type 0} (made : List X) (done : ℕ) (old mid : List (List X)) (was now : List X) (x : X) → done < length made
-    → done < length mid → was ≡ slice_index_or mid done was → x ≡ slice_index_or made done x → now ≡ was ++ x ∷ []
-    → AreHandedOut made done old mid → AreHandedOut made (done + 1) old (slice_set mid done now)
-handed-more {X} made done old mid was now x there within is its grown handed = record {
-  long = length-set mid done now ∙ handed.long;
-  got = got;
-  rest = λ at d from.
-      get_or-set_other mid done at now d (λ same. absurd (omega (arith, from, same)))
-      ∙ handed.rest at d (omega (arith, from));
-}
-  where
-    here : (d : List X) (y : X) → now ≡ slice_index_or old done d ++ slice_index_or made done y ∷ []
-    here d y =
-        grown
-        ∙ ap (λ (l : List X). l ++ x ∷ [])
-        (is ∙ get_or_default mid done was d within ∙ handed.rest done d (omega arith))
-        ∙ ap (λ (z : X). slice_index_or old done d ++ z ∷ []) (its ∙ get_or_default made done x y there)
-
-    got : (at : ℕ) (d : List X) (y : X) → at < done + 1
-        → slice_index_or (slice_set mid done now) at d ≡ slice_index_or old at d ++ slice_index_or made at y ∷ []
-    got at d y below = elim (cases_eq at done) [
-      | inl same ↦
-          get_or-set_at mid done at now d same within ∙ here d y
-          ∙ ap (λ (n : ℕ). slice_index_or old n d ++ slice_index_or made n y ∷ []) (sym same)
-      | inr other ↦ get_or-set_other mid done at now d other ∙ handed.got at d y (omega (arith, below, other))
-    ]
-
 -- ---- passes of mailboxes
-
--- no mailbox is there yet
-pub passes-none : {N J : Type 0} (all : List (List (MailPass N J))) → All (λ (l : List (MailPass N J)). l ≡ []) all
-    → HavePasses {N = N} {J = J} 0 [] all
-passes-none {N} {J} all none k d within = record {
-  many_boxes = refl;
-  many_passes = ap length (none k d within);
-  each = λ at box pass below. absurd (omega (arith, below));
-}
 
 -- a worker gets a pass of one mailbox more
 pass-more : {N J : Type 0} (count : ℕ) (boxes : List (Mailbox N J)) (box : Mailbox N J) (passes : List (MailPass N J)) (pass : MailPass N J)

@@ -27,22 +27,7 @@ span-two from (suc left) some =
     let many : suc left + 1 ≡ suc (suc left) = omega arith in
     (span (suc (suc from)) left, ap (span from) many)
 
--- the numbers but the first
-pub span-later : (from left : ℕ) → span from (left + 1) ≡ from ∷ span (from + 1) left
-span-later from left =
-    let more : left + 1 ≡ suc left = omega arith in
-    let next : suc from ≡ from + 1 = omega arith in
-    ap (span from) more ∙ ap (λ (n : ℕ). from ∷ span n left) next
-
--- one number
-pub span-one : (from left : ℕ) → left ≡ 0 → span from (left + 1) ≡ from ∷ []
-span-one from left none = ap (λ (n : ℕ). span from (n + 1)) none
-
 -- ---- seats
-
--- nothing was dealt
-pub dealt-not : (v : View) → HasDealt v v
-dealt-not v = record { basis = refl; front = refl; own = refl; faults = refl }
 
 -- one seat more was dealt
 pub dealt-more : (old mid new : View) → HasDealt old mid → HasDealt mid new → HasDealt old new
@@ -98,18 +83,6 @@ workers-push {K} {J} {g} id case crew w are is number = record {
         subst (λ (v : Worker K J g). v.node.number ≡ k) (sym (get_or_append_left crew (w ∷ []) d k inside)) (are.numbered k d inside)
   ];
 }
-
--- no worker is there yet
-pub workers-none : {K J : Type 0} {g : Ghosts K} (id : TableId) (case : CaseShape) (crew : List (Worker K J g)) → crew ≡ []
-    → AreWorkers id case crew
-workers-none id case crew none = record {
-  each = λ k d below. absurd (let long = ap length none in omega (arith, below, long));
-  numbered = λ k d below. absurd (let long = ap length none in omega (arith, below, long));
-}
-
--- nor a fact of one
-pub all-none : {W : Type 0} (fact : W → Type 0) (crew : List W) → crew ≡ [] → All fact crew
-all-none fact crew none k d below = absurd (let long = ap length none in omega (arith, below, long))
 
 -- the passes of one worker more
 pub passes-push : {K J : Type 0} {g : Ghosts K} (crew : List (Worker K J g)) (w : Worker K J g)

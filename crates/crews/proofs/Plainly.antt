@@ -3,6 +3,7 @@ use Rattle.std.proofs.Common.{inl, inr, ◌≡◌, ◌⊎◌, ◌<◌, ◌≤◌
 use Rattle.std.specs.Prelude.{IfSome, None, Option, Some, false, min, slice_index_or}
 use Rattle.row_keeper.specs.declared.keeper.Keeper.{Ghosts}
 use Rattle.atomic_table.specs.Seated.{TableId}
+use Rattle.list_lemmas.proofs.Told.{if-anyway}
 use Rattle.mw_types.specs.declared.entry.Entry.{Entry}
 use Rattle.mw_types.specs.declared.entry.Entry.TheVariants as entries
 use Rattle.mailboxes.specs.declared.mailbox.Mailbox.{Mailbox}
@@ -50,10 +51,6 @@ silent-since number front seen begins silent = record {
 
 -- ---- before the first round
 
-told-anyway : {X : Type 0} (o : Option X) (P : Type 0) → P → IfSome o (λ _. P)
-told-anyway None P is = tt
-told-anyway (Some x) P is = is
-
 -- no line is asked for yet
 pub lines-start : {K J : Type 0} {g : Ghosts K} (case : CaseShape) (crew : List (Worker K J g)) → IsTopology case.topology
     → HoldFirst (length (intervals_of case.topology)) crew → HaveLines case 0 crew
@@ -67,7 +64,7 @@ lines-start {K} {J} {g} case crew rules hold part below =
       there = holder.there;
       seq = holder.seq;
       holds = holder.holds;
-      lines = λ d. told-anyway (desk_of (slice_index_or crew holder.at d)).told
+      lines = λ d. if-anyway (desk_of (slice_index_or crew holder.at d)).told
           (IsOvertaken lies.0 holder.seq (desk_of (slice_index_or crew holder.at d)).seen
           ⊎ (min (length (source_of case part)) 0 ≤ injected part (desk_of (slice_index_or crew holder.at d)).seen))
           (inr (omega arith));

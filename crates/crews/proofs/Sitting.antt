@@ -1,5 +1,5 @@
 -- A worker at its seat: what it is after each of its calls.
-use Rattle.std.proofs.Common.{◌≡◌, ◌∙◌, ◌≤◌, ◌+◌, ◌∷◌, ℕ, true, false, List, [], length, sym, ap, subst, arith, length-append}
+use Rattle.std.proofs.Common.{◌≡◌, ◌∙◌, ◌∷◌, ℕ, true, false, List, [], sym, ap, subst}
 use Rattle.std.specs.Prelude.{Option, None, IfSome, Result, Ok, Err, IfErr, OnOk}
 use Rattle.std.specs.Result.{result_err}
 use Rattle.row_keeper.specs.declared.keeper.Keeper.{Ghosts}
@@ -17,8 +17,7 @@ use Rattle.shared_book.specs.declared.seats.Seat.{Seat}
 use Rattle.shared_book.specs.declared.views.View.{View}
 use Rattle.shared_book.proofs.DeskFacts.{one-table}
 use Rattle.workers.specs.Slices.{IsSliceFault}
-use Rattle.workers.specs.declared.orders.Orders.{Orders}
-use Rattle.crews.specs.Crews.{HasFaultCause, HasGoneOn, HasStepped, IsWorker, desk_of, spent_by, stall_of}
+use Rattle.crews.specs.Crews.{HasFaultCause, HasStepped, IsWorker, desk_of}
 use Rattle.crews.specs.Seats.{IsSeated}
 use Rattle.crews.specs.declared.crew.Worker.{Worker}
 use Rattle.crews.proofs.Going.{gone-same}
@@ -96,15 +95,6 @@ seat-behind id case old new seated home same live turn places = record {
 -- with the numbers that it had
 pub numbers-behind : (old new : Place Slot View) → shared_home new ≡ shared_home old → new.me.0.numbers ≡ old.me.0.numbers
 numbers-behind old new home = ap (λ (h : Home). tail h.seats) home
-
--- what one worker spends more is what it appended
-pub spent-gone : {K J : Type 0} {g : Ghosts K} (most : ℕ) (was now : Worker K J g) → HasGoneOn most (desk_of was) (desk_of now)
-    → now.orders ≡ was.orders → spent_by now ≤ spent_by was + most
-spent-gone most was now went orders =
-    let own = ap length went.own ∙ length-append (desk_of was).own went.added in
-    let few = went.few in
-    let stall = ap (λ (o : Orders). stall_of o.stall) orders in
-    omega (arith, own, few, stall)
 
 -- ---- how a turn of work ends
 

@@ -18,7 +18,7 @@ use Rattle.run_history.specs.Runs.{Run, run_of, row_of, followed}
 use Rattle.run_history.specs.Legal.{MayFollow, IsLegal}
 use Rattle.run_history.specs.Finished.{acknowledges, is_acknowledged, all_pending}
 use Rattle.history_laws.specs.Ids.{is_unacknowledged}
-use Rattle.list_lemmas.proofs.Lists.{none_some, some_same, each-weaker, filter-filter, filter-all, find-each, find-kept, find-passes}
+use Rattle.list_lemmas.proofs.Lists.{none_some, each-weaker, filter-filter, filter-all, find-each, find-kept, find-passes}
 use Rattle.history_laws.proofs.Along.{along_history}
 use Rattle.history_laws.proofs.Made.{each_of_commit}
 use Rattle.history_laws.proofs.IdLaws.{same_id-true, passes_once, left_push, none_taken}

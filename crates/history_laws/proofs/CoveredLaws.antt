@@ -1,5 +1,5 @@
 -- The rows of an interval as a list, by a beginning of a history and by the whole.
-use Rattle.std.proofs.Common.{◌≡◌, ℕ, List, ◌++◌, true, sym, ◌∙◌, ap}
+use Rattle.std.proofs.Common.{◌≡◌, ℕ, List, ◌++◌, true, ap}
 use Rattle.std.specs.Prelude.{Some, slice_get}
 use Rattle.std.specs.Ordering.{is_eq}
 use Rattle.mw_types.specs.declared.identity.RowName.{RowName}
@@ -14,10 +14,8 @@ use Rattle.run_history.specs.Cases.{intervals_of}
 use Rattle.run_history.specs.Runs.{Run, run_of, row_in}
 use Rattle.run_history.specs.Fences.{IsFenced, HasSeen, CarryNot, interval_of, known}
 use Rattle.run_history.proofs.Lookups.{same_filtered}
-use Rattle.run_history.proofs.Claims.{last_claim-front}
-use Rattle.run_history.proofs.Known.{known-last}
 use Rattle.run_history.proofs.IntervalLaws.{are-intervals, has-interval_of}
-use Rattle.history_laws.proofs.FenceLaws.{claim-within, row_in-seen, row_in-known}
+use Rattle.history_laws.proofs.FenceLaws.{row_in-seen, row_in-known}
 use Rattle.history_laws.proofs.LowLaws.{AreRowsInOrder, rows-in_order}
 use Rattle.history_laws.proofs.RowSteps.{same_row}
 
@@ -54,12 +52,3 @@ pub rows_covered-known : (shape : Shape) (interval seq worker : ℕ) (b : Bounds
 rows_covered-known shape interval seq worker b front rest rules at fenced claimed none =
     rows_covered-lies shape interval b (known interval seq (front ++ rest)) (known interval seq front) rules at
     (row_in-known shape interval seq worker front rest fenced claimed none)
-
--- the rows of an interval, as they are known by a beginning under its last claim, are those of the whole history
-pub rows_covered-last : (shape : Shape) (interval seq : ℕ) (b : Bounds) (front rest : List Entry) → IsTopology shape
-    → slice_get (intervals_of shape) interval ≡ Some b → IsFenced shape (front ++ rest) → HasSeen interval seq front rest
-    → rows_covered b (run_of shape (known interval seq front)).rows ≡ rows_covered b (run_of shape (front ++ rest)).rows
-rows_covered-last shape interval seq b front rest rules at fenced seen =
-    ap (λ h. rows_covered b (run_of shape h).rows)
-    (known-last interval seq front (last_claim-front interval seq front rest seen.last (claim-within interval seq front rest seen.all)))
-    ∙ sym (rows_covered-seen shape interval seq b front rest rules at fenced seen)

@@ -27,7 +27,7 @@ use Rattle.history_laws.proofs.PendingLaws.{AreSent, legal-sent}
 use Rattle.history_laws.proofs.WorkLaws.{WaitsFrom, IsWorkFrom, FeedsFrom}
 use Rattle.history_laws.proofs.LowLaws.{rows-in_order, LowFrom, from-low}
 use Rattle.history_laws.proofs.OwnLaws.{PendsFrom, IsPartFrom}
-use Rattle.history_laws.proofs.MarkLaws.{covered, intervals-part_from, IsAboveFrom, WorkFrom, above-from, feeds-above, own-from, from-safe, safe-from, IsSafeFrom, own-end, feeds-there}
+use Rattle.history_laws.proofs.MarkLaws.{covered, intervals-part_from, IsAboveFrom, WorkFrom, above-from, feeds-above, own-from, from-safe, own-end, feeds-there}
 
 -- what holds of each interval by its number holds of each
 each-numbered : (P : Bounds → Type 0) (bs : List Bounds) → ((i : ℕ) (b : Bounds) → slice_get bs i ≡ Some b → P b) → AllByRecursion P bs

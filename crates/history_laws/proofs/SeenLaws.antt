@@ -34,7 +34,7 @@ use Rattle.history_laws.proofs.FinishedLaws.{is_handled-more, handled-waits_not}
 use Rattle.history_laws.proofs.PendingLaws.{was_some, kind-there}
 use Rattle.history_laws.proofs.FenceLaws.{claim-within, row_in-seen, row_of-seen}
 use Rattle.run_history.proofs.Claims.{last_claim-front}
-use Rattle.run_history.proofs.Fenced.{carried, IsFenced-push, IsFenced-begins, IsFenced-empty, claim-under, entry-under}
+use Rattle.run_history.proofs.Fenced.{carried, IsFenced-push, IsFenced-begins, claim-under, entry-under}
 use Rattle.history_laws.proofs.LowLaws.{low_watermark-rises}
 use Rattle.history_laws.proofs.SentLaws.{pending-handled}
 
@@ -254,10 +254,6 @@ IsLegalAndFenced-claim case history worker interval lawful may = record {
   legal = IsLegal-push case history (Claim worker interval) lawful.legal may;
   fenced = IsFenced-push case.topology history (Claim worker interval) lawful.fenced (claim-under case.topology history worker interval);
 }
-
--- before any entry a history is legal and fenced
-pub IsLegalAndFenced-empty : (case : CaseShape) → IsLegalAndFenced case []
-IsLegalAndFenced-empty case = record { legal = tt; fenced = IsFenced-empty case.topology }
 
 -- a beginning of a legal and fenced history is legal and fenced
 pub IsLegalAndFenced-front : (case : CaseShape) (front rest : List Entry) → IsLegalAndFenced case (front ++ rest)

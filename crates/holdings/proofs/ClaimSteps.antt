@@ -16,7 +16,6 @@ use Rattle.mw_types.specs.declared.entry.Entry.TheVariants.{Claim}
 use Rattle.key_intervals.specs.declared.bounds.Bounds.{Bounds}
 use Rattle.key_intervals.specs.Intervals.{covers, rows_covered}
 use Rattle.topology.specs.Rules.{IsTopology}
-use Rattle.topology.specs.Shapes.{Shape}
 use Rattle.row_parts.specs.Contents.{Contents, fresh}
 use Rattle.run_history.specs.Cases.{CaseShape, fresh_of, intervals_of}
 use Rattle.run_history.specs.Runs.{Run, row_in, row_of, run_of}
@@ -35,8 +34,7 @@ use Rattle.book.specs.Desking.{HasClaimed}
 use Rattle.book.specs.Desks.{DeskView, IsSound}
 use Rattle.book.specs.declared.answers.Claimed.{Claimed}
 use Rattle.book.specs.declared.answers.NamedRow.{NamedRow}
-use Rattle.holdings.specs.Holding.{AreAllHeld, AreRowsHeld, HeldView, KeepsHeld, KeepsOthers, held_at, row_held}
-use Rattle.holdings.specs.Steps.{KeepsAll}
+use Rattle.holdings.specs.Holding.{AreAllHeld, AreRowsHeld, HeldView, KeepsOthers, held_at, row_held}
 use Rattle.holdings.proofs.HeldRows.{AreKnown, AreRowsHeld-more}
 use Rattle.holdings.proofs.HeldSteps.{AreAllHeld-here}
 
@@ -162,10 +160,3 @@ module _ (case : CaseShape) (old new : DeskView) (worker interval : ℕ) (bounds
         may_use = claimed.moved.leases held.lease before.may_use;
         rows = AreRowsHeld-beside_claim held before.may_use before.rows;
       })
-
--- where every interval holds what it held, what is held is kept
-pub KeepsHeld-all : (shape : Shape) (all after : List (Option HeldView)) → KeepsAll all after → KeepsHeld shape all after
-KeepsHeld-all shape all after same = record {
-  there = λ i held is. (held, same i ∙ is, refl, λ name. refl);
-  none = λ i is. same i ∙ is;
-}

@@ -2,7 +2,7 @@
 use Rattle.std.proofs.Common.{◌≡◌, ◌<◌, ℕ, Bool, true, false, List, [], ◌∷◌, length, refl, sym, ◌∙◌, ap, subst, arith, true≢false}
 use Rattle.std.specs.Bool.{beq}
 use Rattle.std.specs.Prelude.{◌&&◌, ◌==◌, None, Option, Some, slice_get}
-use Rattle.std.specs.Option.{is_some, option_and_then, option_map}
+use Rattle.std.specs.Option.{is_some, option_map}
 use Rattle.std.specs.Cmp.{IsTotalOrder, bool_cmp_total, on_total, then_total, tied_itself}
 use Rattle.std.specs.Map.{lookup}
 use Rattle.std.specs.BTreeMap.{is_at}
@@ -97,12 +97,6 @@ due_placed n row k is = by_timer (timer_of row) is
     by_timer : (o : Option Timer) → option_map (due_at n) o ≡ Some k → due_name k ≡ n
     by_timer None e = absurd (none_some k e)
     by_timer (Some t) e = ap due_name (sym (some_same (due_at n t) k e))
-
--- the first timer of a row that was there, if there is one
-pub due-before : (n : RowName) (before : Option Contents)
-    → option_map (due_at n) (option_and_then timer_of before) ≡ option_and_then (due_of n) before
-due-before n None = refl
-due-before n (Some row) = refl
 
 module _ (rows : List (RowName × Contents)) where
   -- the first timer of a row is among them

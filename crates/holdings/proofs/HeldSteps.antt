@@ -90,10 +90,6 @@ AreAllHeld-fewer case desk all after i gone others are = record {
   ];
 }
 
--- what is held fits where nothing is
-pub AreAllHeld-none : (case : CaseShape) (desk : DeskView) → AreAllHeld case desk []
-AreAllHeld-none case desk = record { each = λ i held is. absurd (none_some held is) }
-
 -- ---- an entry on a row
 
 -- what is held of one interval fits, and what else is held fits

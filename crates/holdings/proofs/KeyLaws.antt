@@ -153,11 +153,6 @@ module _ {K : Type 0} (cmp : K → K → Ordering) (total : IsTotalOrder cmp) (s
       either_way true o = refl
       either_way false o = refl
 
--- nothing is changed
-pub rekeyed-none : {K : Type 0} (cmp : K → K → Ordering) (old : List (K × Unit {0})) → IsStrictlySortedBy cmp (keys_of old)
-    → HasRekeyed cmp None None old old
-rekeyed-none cmp old ordered = record { ordered = ordered; each = λ k. refl }
-
 -- a key is taken away and put again, which changes nothing where it was there
 pub rekeyed-same : {K : Type 0} (cmp : K → K → Ordering) (key : Option K) (old : List (K × Unit {0})) → IsStrictlySortedBy cmp (keys_of old)
     → IsThere cmp key old → HasRekeyed cmp key key old old

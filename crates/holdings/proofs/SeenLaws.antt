@@ -17,7 +17,7 @@ use Rattle.list_lemmas.proofs.Lists.{none_some, some_same}
 use Rattle.history_laws.proofs.RowSteps.{same_row}
 use Rattle.holdings.specs.Keyed.{has_key, ties}
 use Rattle.holdings.specs.Purges.{IsFirstToPurge, forgets}
-use Rattle.holdings.specs.Seens.{AreSeen, AreSeenLeft, had_seen, name_if, own_name, seen_of}
+use Rattle.holdings.specs.Seens.{AreSeen, AreSeenLeft, own_name, seen_of}
 use Rattle.holdings.proofs.KeyLaws.{first-least}
 
 -- a name of a row that has seen ids is the row's
@@ -27,11 +27,6 @@ seen_placed n row k is = by_test (nat_lt 0 (length row.seen)) is
     by_test : (b : Bool) → cond b (Some n) None ≡ Some k → k ≡ n
     by_test true e = sym (some_same n k e)
     by_test false e = absurd (none_some k e)
-
--- a name of a row that has seen ids is there where it has
-pub seen_of-before : (name : RowName) (before : Option Contents) → option_and_then (seen_of name) before ≡ name_if (had_seen before) name
-seen_of-before name None = refl
-seen_of-before name (Some row) = refl
 
 -- a row that may forget ids has some
 has-some : (floor least : ℕ) (row : Contents) → forgets floor least row ≡ Some (tt {0}) → nat_lt 0 (length row.seen) ≡ true

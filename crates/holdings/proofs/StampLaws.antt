@@ -145,10 +145,6 @@ restamped-new after old new added = record {
       omega (arith, more, first);
 }
 
--- the end is no stamp that is added
-pub restamped-end : (after : ℕ) (old : List ℕ) → after ≡ END → HasRestamped None after old old
-restamped-end after old is = record { sums = λ weigh end. let none : weigh after ≡ 0 = ap weigh is ∙ end in omega (arith, none) }
-
 -- one stamp less, by what the stamps say
 pub unstamped-gone : (stamp : ℕ) (old new : List ℕ) → IsPermutation old (stamp ∷ new) → HasUnstamped stamp old new
 unstamped-gone stamp old new removed = record {
@@ -157,10 +153,6 @@ unstamped-gone stamp old new removed = record {
       let last = sum_by-cons weigh stamp new in
       omega (arith, less, last);
 }
-
--- the end is no stamp that is removed
-pub unstamped-end : (stamp : ℕ) (old : List ℕ) → stamp ≡ END → HasUnstamped stamp old old
-unstamped-end stamp old is = record { sums = λ weigh end. let none : weigh stamp ≡ 0 = ap weigh is ∙ end in omega (arith, none) }
 
 -- one stamp less, then one more
 pub restamped-both : (before after : ℕ) (old mid new : List ℕ) → HasUnstamped before old mid → HasRestamped None after mid new
@@ -171,10 +163,6 @@ restamped-both before after old mid new removed added = record {
       let more = added.sums weigh end in
       omega (arith, less, more);
 }
-
--- a stamp in its own place
-pub restamped-same : (stamp after : ℕ) (old : List ℕ) → stamp ≡ after → HasRestamped (Some stamp) after old old
-restamped-same stamp after old same = record { sums = λ weigh end. ap (λ n. sum_by weigh old + weigh n) same }
 
 -- ---- the stamps of all rows, made anew
 
@@ -207,21 +195,6 @@ stamps-merged answered others start mid stamps are none one two = record {
       let second = two.sums weigh end in
       let nothing : sum_by weigh start ≡ 0 = ap (sum_by weigh) none in
       omega (arith, whole, first, second, nothing);
-}
-
--- all rows are left, and no stamp was added
-pub left-all : (rows : List (RowName × Contents)) (stamps : List ℕ) → AreLeft rows rows stamps stamps
-left-all rows stamps = record { sums = λ weigh end. refl }
-
--- one row is past, and its stamp was added
-pub left-one : (row : RowName × Contents) (left all : List (RowName × Contents)) (now new start : List ℕ)
-    → HasRestamped None (work_of row.1) now new → AreLeft (row ∷ left) all now start → AreLeft left all new start
-left-one row left all now new start more are = record {
-  sums = λ weigh end.
-      let one = more.sums weigh end in
-      let before = are.sums weigh end in
-      let first = sum_by-cons (λ (r : Contents). weigh (work_of r)) row.1 (values_of left) in
-      omega (arith, one, before, first);
 }
 
 -- no row is left

@@ -1,6 +1,6 @@
 -- What is said where an option or a result has a value.
 use Rattle.std.proofs.Common.{◌≡◌, refl, sym, subst}
-use Rattle.std.specs.Prelude.{Option, Some, None, IsSome, IfSome, Result, Ok, Err, OnOk}
+use Rattle.std.specs.Prelude.{Option, Some, None, IsSome, IfSome, Result, Ok, Err, OnErr, OnOk}
 
 -- what holds anyway holds where there is a value
 pub if-anyway : {X : Type 0} (o : Option X) (P : Type 0) → P → IfSome o (λ _. P)
@@ -21,3 +21,13 @@ if-same {X = X} (Some x) new P Q same step was = subst (λ (o : Option X). IfSom
 pub on_ok-map : {T E P Q : Type 0} (result : Result T E) → (P → Q) → OnOk result P → OnOk result Q
 on_ok-map (Ok x) f is = f is
 on_ok-map (Err why) f is = tt
+
+-- what holds anyway holds after a refusal
+pub on_err-anyway : {T E P : Type 0} (result : Result T E) → P → OnErr result P
+on_err-anyway (Ok x) is = tt
+on_err-anyway (Err why) is = is
+
+-- and where nothing was refused
+pub on_ok-anyway : {T E P : Type 0} (result : Result T E) → P → OnOk result P
+on_ok-anyway (Ok x) is = is
+on_ok-anyway (Err why) is = tt

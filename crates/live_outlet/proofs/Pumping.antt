@@ -1,6 +1,5 @@
 -- What an outlet remembers and writes, entry by entry.
 use Rattle.std.proofs.Common.{◌≡◌, ℕ, ◌+◌, ◌<◌, ◌≤◌, Bool, true, false, List, [], ◌∷◌, ◌++◌, length, get_or, take, drop, All, Option, Some, None, refl, sym, ◌∙◌, ap, subst, arith, append_assoc, append-nil, length-append}
-use Rattle.std.specs.Prelude.{Result, Ok, Err, OnErr}
 use Rattle.std.proofs.lemmas.List.{at_drop_more, take_more, length-take-le, take-append-le}
 use Rattle.mw_types.specs.declared.delivery.Emission.{Emission}
 use Rattle.mw_types.specs.declared.entry.Entry.{Entry}
@@ -14,9 +13,8 @@ use Rattle.list_lemmas.proofs.Lists.{each-append}
 use Rattle.list_lemmas.proofs.Places.{slice_get-some}
 use Rattle.std.proofs.lemmas.Option.{get_or_from_slice_get}
 use Rattle.std.specs.Io.KnownBytes.{append_known}
-use Rattle.mw_ports.specs.Sinks.{AppendsPrefix}
 use Rattle.live_outlet.specs.LiveLines.{live_of, live_line_of, IsLive}
-use Rattle.live_outlet.specs.Outlets.{OutletView, emitted_by, AreBetween, live_lines, AreLive, piece_of, owed, owes_behind, AreNext, Remembers, IsPumpedFrom, WritesTo, StopsAt, WritesPart, PutsPart}
+use Rattle.live_outlet.specs.Outlets.{OutletView, emitted_by, AreBetween, live_lines, AreLive, piece_of, owed, owes_behind, AreNext, Remembers, IsPumpedFrom, WritesTo, WritesPart, PutsPart}
 
 -- ---- what is remembered
 
@@ -33,16 +31,6 @@ followed-before shape history o is fresh = by_ready o.ready fresh is.known
     by_ready : (b : Bool) → b ≡ false → Remembers shape history o.place o.followed b o.waiting → HasFollowed shape (take o.place history) o.followed
     by_ready true fresh known = absurd (cc)
     by_ready false fresh known = known
-
--- where it was, its emissions are there
-pub next-waits : (shape : Shape) (history : List Entry) (o : OutletView) → IsPumpedFrom shape o history → o.ready ≡ true
-    → HasFollowed shape (take (o.place + 1) history) o.followed × AreNext shape history o.place o.waiting
-next-waits shape history o is ready = by_ready o.ready ready is.known
-  where
-    by_ready : (b : Bool) → b ≡ true → Remembers shape history o.place o.followed b o.waiting
-        → HasFollowed shape (take (o.place + 1) history) o.followed × AreNext shape history o.place o.waiting
-    by_ready true ready known = known
-    by_ready false ready known = absurd (cc)
 
 -- the next entry is followed
 pub followed-next : (shape : Shape) (history : List Entry) (place : ℕ) (entry : Entry) (late late' : List ℕ) (es : List Emission)
@@ -98,19 +86,6 @@ owed-piece shape false (e ∷ es) some = refl
 
 -- ---- steps
 
--- an outlet remembers the same where only what it owes changes
-pub owes-extends : (shape : Shape) (history : List Entry) (o : OutletView) (owes : Bool) → IsPumpedFrom shape o history
-    → IsPumpedFrom shape (record o { owes = owes }) history
-owes-extends shape history o owes is = record { place = is.place; known = is.known }
-
--- it goes past the next entry
-pub pass-extends : (shape : Shape) (history : List Entry) (o : OutletView) → IsPumpedFrom shape o history → o.ready ≡ true
-    → IsPumpedFrom shape (record o { place = o.place + 1; ready = false }) history
-pass-extends shape history o is ready =
-    let waits = next-waits shape history o is ready in
-    let next : o.place < length history = waits.1.next in
-    record { place = omega (arith, next); known = waits.0 }
-
 -- nothing more
 pub append_known-none : (text : Option (List ℕ)) → append_known text [] ≡ text
 append_known-none None = refl
@@ -140,29 +115,6 @@ live_lines-append shape (e ∷ xs) ys =
     ap (λ l. live_line_of shape e ++ l) (live_lines-append shape xs ys)
     ∙ sym (append_assoc (live_line_of shape e) (live_lines shape xs) (live_lines shape ys))
 
--- nothing is written up to the same place
-pub writes-none : (shape : Shape) (history : List Entry) (o : OutletView) (text : Option (List ℕ)) → WritesTo shape history o o text text
-writes-none shape history o text = record {
-  es = [];
-  between = append-nil (emitted_by shape history o.place);
-  live = tt;
-  wrote = sym (append_known-none text);
-  owes = refl;
-}
-
--- the lines of the next entry
-pub writes-next : (shape : Shape) (history : List Entry) (old last : OutletView) (es : List Emission) (text grown : Option (List ℕ))
-    → AreNext shape history old.place es → AreLive shape es
-    → grown ≡ append_known text (piece_of old.owes (live_lines shape es))
-    → last.place ≡ old.place + 1 → last.owes ≡ owes_behind old.owes (live_lines shape es) → WritesTo shape history old last text grown
-writes-next shape history old last es text grown next live wrote place owes = record {
-  es = es;
-  between = subst (λ n. AreBetween shape history old.place n es) (sym place) next.between;
-  live = live;
-  wrote = wrote;
-  owes = owes;
-}
-
 -- further lines
 pub writes-more : (shape : Shape) (history : List Entry) (old mid new : OutletView) (text some grown : Option (List ℕ))
     → WritesTo shape history old mid text some → WritesTo shape history mid new some grown → WritesTo shape history old new text grown
@@ -183,25 +135,6 @@ writes-more shape history old mid new text some grown first after =
       owes = after.owes ∙ ap (λ o. owes_behind o b) first.owes ∙ sym (owes_behind-append old.owes a b)
           ∙ ap (owes_behind old.owes) (sym both);
     }
-
--- a beginning of the next entry's lines
-pub stops-at : (shape : Shape) (history : List Entry) (old mid new : OutletView) (text some grown : Option (List ℕ))
-    → WritesTo shape history old mid text some → PutsPart shape history mid some grown
-    → new.place ≡ mid.place → new.owes ≡ true → mid.place < length history → StopsAt shape history old new text grown
-stops-at shape history old mid new text some grown first after place owes next = record {
-  es = first.es;
-  between = subst (λ n. AreBetween shape history old.place n first.es) (sym place) first.between;
-  live = first.live;
-  begun = after.part.begun;
-  left = after.part.left;
-  next = subst (λ n. AreBetween shape history n (n + 1) (after.part.begun ++ after.part.left)) (sym place)
-      (subst (λ l. AreBetween shape history mid.place (mid.place + 1) l) (sym after.part.whole) after.next);
-  begun_live = after.part.live;
-  wrote = subst (λ o. AppendsPrefix (piece_of o (live_lines shape after.part.begun)) (append_known text (piece_of old.owes (live_lines shape first.es))) grown) first.owes
-      (subst (λ t. AppendsPrefix (piece_of mid.owes (live_lines shape after.part.begun)) t grown) first.wrote after.part.part);
-  owes = owes;
-  place = subst (λ n. n < length history) (sym place) next;
-}
 
 -- nothing of some emissions was written
 pub part-none : (shape : Shape) (owes : Bool) (es : List Emission) (text : Option (List ℕ)) → WritesPart shape owes es text text
@@ -238,11 +171,6 @@ puts-none shape history o text next =
 pub owes-nothing : (shape : Shape) (owes : Bool) (es : List Emission) → (length es ≡ 0 → ⊥) → false ≡ owes_behind owes (live_lines shape es)
 owes-nothing shape owes [] some = absurd (some refl)
 owes-nothing shape owes (e ∷ es) some = refl
-
--- what holds anyway holds after a refusal
-pub on_err-anyway : {T E P : Type 0} (result : Result T E) → P → OnErr result P
-on_err-anyway (Ok x) holds = tt
-on_err-anyway (Err e) holds = holds
 
 -- ---- histories that grow
 

@@ -6,7 +6,6 @@ use Rattle.mw_types.specs.declared.entry.Entry.{Entry}
 use Rattle.command_line.specs.declared.command.Call.{Call}
 use Rattle.command_line.specs.declared.command.Call.TheVariants.{Solo, Replay, Run, Plain, Load, Collect, Audit}
 use Rattle.command_line.specs.declared.command.Command.{Command}
-use Rattle.command_line.specs.declared.refusal.WordsRefusal.{WordsRefusal}
 use Rattle.command_line.specs.declared.refusal.WordsRefusal.TheVariants as refusals
 use Rattle.mw_ports.specs.Shelves.{Files}
 use Rattle.row_keeper.specs.Rows.{Rows}
@@ -37,7 +36,7 @@ use Rattle.millwheel_cli.specs.Limits.{history_limit}
 use Rattle.millwheel_cli.specs.Reasons.{ShelfSeen, HasReason}
 use Rattle.millwheel_cli.specs.Histories.{IsReadAfter, IsShortOf}
 use Rattle.millwheel_cli.specs.Answers.{Left, IsUnbegun, IsUnrun, IsRun, IsKeptRun, IsWholeRun, IsWholeText, IsPlainWhole, IsInOrder, IsTextSoFar, IsTextOf, RunLeaves, TextLeaves, CallLeaves, HasRun, HasWritten, HasDone, HasLeft}
-use Rattle.millwheel_cli.specs.Inside.{HasText, HasPlain, IsCallEnd, IsWritten, status_of, of_words, of_start, of_drain}
+use Rattle.millwheel_cli.specs.Inside.{HasText, HasPlain, IsCallEnd, IsWritten, status_of, of_start, of_drain}
 use Rattle.millwheel_cli.proofs.Reasons.{call_reason}
 
 -- where no run was begun, nothing is left with a refusal of the files
@@ -328,10 +327,6 @@ pub no_usage : (seen : ShelfSeen) (asked : Option Command) (command : Command) (
 no_usage seen asked command s named why is =
     not_none asked command named (subst (λ t. HasReason seen asked t) is why)
 
--- no run ends with Usage
-pub run_usage : (task : Task) (left : Left) (s : Status) → RunLeaves task left s → s ≡ status.Usage → ⊥
-run_usage task left s leaves is = subst (λ t. RunLeaves task left t) is leaves
-
 -- what a run leaves, said of the same rows before
 pub same_run : (task : Task) (before rows after : Option Rows) (text : Option (List ℕ) × Option (List ℕ))
     (history : List Entry) (s : Status)
@@ -353,18 +348,6 @@ same_end task before after rows text history other s told same leaves =
 pub unwanted : (task : Task) (left : Left) (s : Status) → s ≡ status.NoMemory → IsUnbegun left
     → RunLeaves task left s
 unwanted task left s is unbegun = subst (λ t. RunLeaves task left t) (sym is) (inr (inr unbegun))
-
--- where the words are not read, that is what is left
-pub left_of_words : (files : Option Files) (asked : Option Command) (left : Left) (refusal : WordsRefusal) → IsUnbegun left
-    → HasLeft files asked left (of_words refusal)
-left_of_words files asked left refusals.Usage is = is
-left_of_words files asked left refusals.NoMemory is = inr is
-
--- and its reason
-pub words_reason : (seen : ShelfSeen) (asked : Option Command) (refusal : WordsRefusal)
-    → (refusal ≡ refusals.Usage → asked ≡ None) → HasReason seen asked (of_words refusal)
-words_reason seen asked refusals.Usage none = none refl
-words_reason seen asked refusals.NoMemory none = tt
 
 -- what is written of a plain count is what its status leaves, where no run was begun
 pub counted : (case : CaseShape) (left : Left) (s : Status) → IsUnrun left → HasPlain case left.text.0 left.text.1 s
@@ -423,7 +406,3 @@ unbegun_of left old new unrun text same = record {
   unwritten = ap (λ (t : Option (List ℕ) × Option (List ℕ)). t.1) text ∙ same
       ∙ sym (ap (λ (t : Option (List ℕ) × Option (List ℕ)). t.0) text);
 }
-
--- no plain count fails by the keeper
-pub plain_keeper : (case : CaseShape) (old new : Option (List ℕ)) (s : Status) → HasPlain case old new s → s ≡ status.KeeperFault → ⊥
-plain_keeper case old new s is same = subst (λ t. HasPlain case old new t) same is

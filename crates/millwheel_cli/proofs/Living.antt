@@ -1,10 +1,10 @@
 -- What a text is that was written while its run went on.
-use Rattle.std.proofs.Common.{◌≡◌, ◌≤◌, ◌<◌, ◌+◌, ◌==◌, ◌++◌, ℕ, Bool, true, false, List, [], ◌∷◌, length, map, take, Option, Some, None, IfSome, refl, sym, ◌∙◌, ap, subst, arith, append_assoc, append-nil, inl, inr, true≢false}
+use Rattle.std.proofs.Common.{◌≡◌, ◌≤◌, ◌+◌, ◌==◌, ◌++◌, ℕ, Bool, true, false, List, [], ◌∷◌, length, map, take, Option, Some, None, IfSome, refl, sym, ◌∙◌, ap, subst, arith, append_assoc, inl, inr, true≢false}
 use Rattle.std.specs.Prelude.{Contains}
 use Rattle.std.specs.List.{AllByRecursion, flat_map}
 use Rattle.std.specs.Io.KnownBytes.{append_known}
 use Rattle.std.proofs.Math.Seq.{take-append_seam, take-append-add}
-use Rattle.std.proofs.lemmas.List.{length-append, take-append-le}
+use Rattle.std.proofs.lemmas.List.{take-append-le}
 use Rattle.std.proofs.lemmas.List.Concat.{flat_map-append}
 use Rattle.std.proofs.lemmas.List.Elements.{All-contains_itself, Contains-append_left, Contains-append_right, recursion_from_All}
 use Rattle.list_lemmas.proofs.Lists.{each-append, each-weaker}
@@ -284,25 +284,6 @@ back-on shape history old new text grown owes extends is = record {
   results = is.results;
   at_end = λ no. absurd (true≢false (sym no));
 }
-
--- a history that is no longer than its beginning is that
-same-front : (front history : List Entry) (count : ℕ) → Begins front history → length front ≡ count → (count < length history → ⊥)
-    → front ≡ history
-same-front front history count begins long no_more = by_rest begins.0 begins.1
-  where
-    by_rest : (rest : List Entry) → front ++ rest ≡ history → front ≡ history
-    by_rest [] is = sym (append-nil front) ∙ is
-    by_rest (e ∷ es) is =
-        absurd (no_more (omega (arith, long, sym (ap length is), length-append front (e ∷ es))))
-
--- a step that appended nothing
-pub stepped-still : (shape : Shape) (history : List Entry) (count : ℕ) (old new : OutletView) (text : Option (List ℕ))
-    → (count < length history → ⊥) → new.owes ≡ old.owes
-    → ((h : List Entry) → IsPumpedFrom shape old h → IsPumpedFrom shape new h)
-    → StepsOn shape history count old new text text
-stepped-still shape history count old new some no_more owes extends = λ front text begins long is.
-    back-on shape history old new text some owes (extends history)
-    (subst (λ (h : List Entry). IsPumpedTo shape h false old text some) (same-front front history count begins long no_more) is)
 
 -- one that appended an entry
 pub stepped-more : (shape : Shape) (history : List Entry) (count : ℕ) (old mid new : OutletView) (some grown : Option (List ℕ))

@@ -1,5 +1,5 @@
 -- Why a file was refused is why the call was.
-use Rattle.std.proofs.Common.{◌≡◌, ◌≤◌, ◌+◌, ◌-◌, ◌⊎◌, ℕ, List, [], ◌∷◌, length, Option, None, Some, Result, sym, subst, inl, inr}
+use Rattle.std.proofs.Common.{◌≡◌, ◌≤◌, ◌+◌, ◌-◌, ◌⊎◌, ℕ, List, [], ◌∷◌, length, Option, None, Some, Result, subst, inl, inr}
 use Rattle.mw_types.proofs.CauseLaws.{Rose-before}
 use Rattle.command_line.specs.declared.command.Inputs.{Inputs}
 use Rattle.command_line.specs.declared.command.Call.{Call}
@@ -7,8 +7,6 @@ use Rattle.command_line.specs.declared.command.Call.TheVariants.{Solo, Replay, R
 use Rattle.command_line.specs.declared.command.Command.{Command}
 use Rattle.mw_ports.specs.Shelves.{Files}
 use Rattle.topology.specs.Shapes.{Shape}
-use Rattle.injector.specs.Sources.{Source}
-use Rattle.run_history.specs.Cases.{CaseShape}
 use Rattle.millwheel_cli.specs.declared.task.Before.{Before}
 use Rattle.millwheel_cli.specs.declared.task.Task.{Task}
 use Rattle.millwheel_cli.specs.declared.status.Status.{Status}
@@ -16,9 +14,9 @@ use Rattle.millwheel_cli.specs.declared.status.Status.TheVariants as status
 use Rattle.millwheel_cli.specs.declared.refusal.Refusal.{Refusal}
 use Rattle.millwheel_cli.specs.declared.refusal.Refusal.TheVariants.{NoFile, TopologyRefused, EventsRefused, PlanRefused, NoMemory, ReadFault, TooLong, FileCount, CollectRefused, AuditRefused}
 use Rattle.millwheel_cli.specs.Limits.{plan_limit, events_limit, lines_limit, trace_limit}
-use Rattle.millwheel_cli.specs.Files.{HoldsTopology, HoldsSources, source_taken}
-use Rattle.millwheel_cli.specs.Tasks.{wanted_of, rounds_taken, steps_taken, HoldsBefore, IsInputsTask}
-use Rattle.millwheel_cli.specs.Reasons.{ShelfSeen, IsAuditRefused, IsTraceRefusedBehind, IsUnread, IsFileRefused, IsTopologyRefused, IsPlanRefused, IsSourceRefused, IsRefusedFirst, IsRefused, IsCallRefused, IsCommandRefused, HasReason}
+use Rattle.millwheel_cli.specs.Files.{HoldsTopology, source_taken}
+use Rattle.millwheel_cli.specs.Tasks.{rounds_taken, steps_taken, HoldsBefore, IsInputsTask}
+use Rattle.millwheel_cli.specs.Reasons.{ShelfSeen, IsAuditRefused, IsTraceRefusedBehind, IsUnread, IsFileRefused, IsPlanRefused, IsSourceRefused, IsRefusedFirst, IsRefused, IsCallRefused, IsCommandRefused, HasReason}
 use Rattle.millwheel_cli.specs.Audits.{CountsTrace, HoldsCase, HoldsRun, HoldsWrong, trace_taken}
 use Rattle.millwheel_cli.specs.Inside.{IsTraceRefused, status_of, UnlessWant}
 use Rattle.millwheel_cli.proofs.Refusals.{unless_map}
@@ -84,14 +82,6 @@ plan_over files f0 f1 f2 l0 l1 l2 (Load seed lines) shape s f l is = absurd is
 plan_over files f0 f1 f2 l0 l1 l2 (Collect file) shape s f l is = absurd is
 plan_over files f0 f1 f2 l0 l1 l2 (Audit inputs trace) shape s f l is = absurd is
 
--- why the topology's file was refused is why one of the first files was
-pub topology_refused : (seen : ShelfSeen) (call : Call) (inputs : Inputs) (refusal : Refusal)
-    → UnlessWant (IsTopologyRefused seen (length inputs.events) inputs.topology) refusal
-    → UnlessWant (IsRefusedFirst seen call inputs) refusal
-topology_refused seen call inputs refusal is =
-    unless_map (IsTopologyRefused seen (length inputs.events) inputs.topology) (IsRefusedFirst seen call inputs) refusal
-    (λ s why. inl why) is
-
 -- so it is of the plan, where the topology was taken before and the shelf's files stayed as they were
 pub plan_refused : (files later : Option Files) (f0 f1 f2 l0 l1 l2 : ℕ) (call : Call) (inputs : Inputs) (shape : Shape)
     (refusal : Refusal)
@@ -132,29 +122,6 @@ events_refused files later f0 f1 f2 l0 l1 l2 call inputs names shape before refu
           (subst (λ (fs : Option Files). IsSourceRefused (seen_of fs f1 f2 l1 l2) 0 lines_limit inputs.events s) unchanged
           (subst (λ (ns : List (List ℕ)). IsSourceRefused (seen_of later f1 f2 l1 l2) 0 lines_limit ns s) same why));
     })) is
-
--- a plan that was held is held by the same files
-pub before_same : (files later : Option Files) (call : Call) (shape : Shape) (before : Before) → later ≡ files
-    → HoldsBefore later call shape before → HoldsBefore files call shape before
-before_same files later call shape before same is = subst (λ (fs : Option Files). HoldsBefore fs call shape before) same is
-
--- what files were read make a task
-pub inputs_task : (files later : Option Files) (call : Call) (inputs : Inputs) (names : List (List ℕ)) (shape : Shape)
-    (sources : List Source) (before : Before) (task : Task)
-    → names ≡ inputs.events → later ≡ files
-    → task.case ≡ record { topology = shape; sources = sources } → task.before ≡ before → task.wanted ≡ wanted_of inputs.history inputs.live
-    → HoldsTopology files inputs.topology (length inputs.events) shape → HoldsBefore files call shape before
-    → HoldsSources later 0 lines_limit names sources
-    → IsInputsTask files call inputs task
-inputs_task files later call inputs names shape sources before task same unchanged made is text topology planned events = record {
-  topology_read = subst (λ (k : CaseShape). HoldsTopology files inputs.topology (length inputs.events) k.topology) (sym made) topology;
-  plan_read = subst (λ (k : CaseShape). HoldsBefore files call k.topology task.before) (sym made)
-      (subst (λ (b : Before). HoldsBefore files call shape b) (sym is) planned);
-  events_read = subst (λ (k : CaseShape). HoldsSources files 0 lines_limit inputs.events k.sources) (sym made)
-      (subst (λ (ns : List (List ℕ)). HoldsSources files 0 lines_limit ns sources) same
-      (subst (λ (fs : Option Files). HoldsSources fs 0 lines_limit names sources) unchanged events));
-  text = text;
-}
 
 -- the files of the task of an audit's inputs are those of its case
 pub case_held : (files : Option Files) (call : Call) (inputs : Inputs) (task : Task) → IsInputsTask files call inputs task

@@ -1,8 +1,8 @@
 -- What was taken from a reader, and what it says of all that the reader had.
-use Rattle.std.proofs.Common.{◌≡◌, ◌<◌, ◌+◌, ◌++◌, ◌∙◌, ℕ, List, [], Option, Some, None, Result, Ok, IsErr, IsErrOf, sym, ap, subst, length, append_assoc, append-nil, arith}
+use Rattle.std.proofs.Common.{◌≡◌, ◌<◌, ◌+◌, ◌++◌, ◌∙◌, ℕ, List, Option, Some, None, Result, Ok, IsErr, IsErrOf, sym, ap, subst, length, append_assoc, append-nil, arith}
 use Rattle.std.proofs.lemmas.List.{length-append}
 use Rattle.std.proofs.lemmas.Result.{IfOk-from_err}
-use Rattle.std.specs.Io.KnownBytes.{Consumes, Keeps, IsAtEnd}
+use Rattle.std.specs.Io.KnownBytes.{Consumes, IsAtEnd}
 use Rattle.mw_ports.specs.declared.shelf.ShelfFault.{ShelfFault}
 use Rattle.mw_ports.specs.declared.shelf.ShelfFault.TheVariants.{Missing, TooLong}
 use Rattle.mw_ports.specs.Readers.{Moves, ReadsAll, TakesMoreThan, TakesAtMost}
@@ -14,12 +14,6 @@ Consumes-append (Some l) None c xs ys took more = absurd took
 Consumes-append (Some l) (Some m) None xs ys took more = absurd more
 Consumes-append (Some l) (Some m) (Some n) xs ys took more =
     took ∙ ap (λ rest. xs ++ rest) more ∙ sym (append_assoc xs ys n)
-
--- where a reader keeps what it has, nothing was taken
-pub Keeps-consumes : (a b : Option (List ℕ)) → Keeps a b → Consumes a b []
-Keeps-consumes None b kept = tt
-Keeps-consumes (Some l) None kept = absurd kept
-Keeps-consumes (Some l) (Some m) kept = sym kept
 
 -- what was taken up to the end is all
 pub ReadsFile-all : (a b : Option (List ℕ)) (xs : List ℕ) (limit : ℕ) → Consumes a b xs → IsAtEnd b

@@ -147,13 +147,6 @@ next-purge shape node interval least floor held (Some name) free at within first
       refl,
     )
 
--- no row of an interval that is not held
-pub no-purge : (shape : Shape) (node : NodeView) (interval least floor : ℕ) → held_at node.held interval ≡ None
-    → IsToPurge shape node interval least floor None
-no-purge shape node interval least floor none = λ asked may.
-    let there = held-at-on shape node.held may.name interval may.may.held may.may.there may.of_interval in
-    absurd (let is : None ≡ Some may.may.held = sym none ∙ there in cc)
-
 -- the same of an interval that is held
 pub next-purge-held : (shape : Shape) (node : NodeView) (interval least floor : ℕ) (found : Option RowName) → node.prepared ≡ None
     → IsSome (held_at node.held interval) → AreRowsWithin shape interval (held_at node.held interval)
@@ -223,13 +216,3 @@ purge-fails case old mid new was interval least floor name result sound is looke
       fails = fault-later old mid new (MayAskPurge shape was interval least floor) fault looked
           (inr (asked, subst (MayAskPurge shape was interval least floor) same first.2, f));
     }) (fails may.held (subst (λ (n : RowName). held_on shape was.held n ≡ Some may.held) first.3 may.there))
-
--- where there is none
-pub purge-nothing : (case : CaseShape) (old mid : DeskView) (was : NodeView) (interval least floor : ℕ) → IsSound old → IsSound mid
-    → HasLooked old mid → floor ≡ mid.floor → IsToPurge case.topology was interval least floor None
-    → AnswersPurge case.topology old mid interval least was was outcomes.Nothing
-purge-nothing case old mid was interval least floor sound is looked at none = record {
-  floor = floor;
-  known = floor-known old mid mid floor sound is looked at (omega arith);
-  answers = (none, record { looked = looked; kept = refl });
-}

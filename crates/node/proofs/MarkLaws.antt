@@ -76,16 +76,6 @@ known-later shape part old mid new mark long longer rise is =
           let more = rise k in omega (arith, was, more)));
     }
 
--- a mark that does not count leaves another as it is
-pub lesser-not : (interval : ℕ) (marks : List ℕ) (counts : Bool) (before : ℕ) → counts ≡ false
-    → IsLesser counts interval marks marks before before
-lesser-not interval marks counts before is = record {
-  mark = mark_of marks interval;
-  at_least = omega arith;
-  at_most = omega arith;
-  lesser = ap (λ b. if b then min before (mark_of marks interval) else before) (sym is);
-}
-
 -- the least mark so far, with one interval more, while the marks rise
 pub least-step : (intervals : List Bounds) (part : ℕ) (was old new : List ℕ) (b : Bounds) (i before after : ℕ)
     → slice_get intervals i ≡ Some b → ((j : ℕ) → mark_of was j ≤ mark_of old j) → ((j : ℕ) → mark_of old j ≤ mark_of new j)

@@ -1,8 +1,8 @@
 -- What a node makes of a message that comes.
-use Rattle.std.proofs.Common.{◌≡◌, ◌∙◌, Bool, true, false, List, [], ◌∷◌, ◌++◌, refl, sym, ap, subst}
-use Rattle.std.specs.Prelude.{IfSome, IsSome, Option, Some, None, if◌then◌else◌}
+use Rattle.std.proofs.Common.{◌≡◌, ◌∙◌, Bool, true, false, List, [], ◌∷◌, ◌++◌, refl, sym, subst}
+use Rattle.std.specs.Prelude.{IfSome, IsSome, Option, Some, None}
 use Rattle.std.proofs.lemmas.List.Elements.{All-append, All-from_recursion}
-use Rattle.std.specs.Option.{is_some, option_map_or}
+use Rattle.std.specs.Option.{option_map_or}
 use Rattle.list_lemmas.proofs.Told.{if-anyway, if-same}
 use Rattle.mw_types.specs.Outcomes.{EffectsView}
 use Rattle.mw_types.specs.declared.delivery.Delivery.{Delivery}
@@ -15,7 +15,7 @@ use Rattle.run_history.specs.Legal.{record_outcome}
 use Rattle.book.specs.Desks.{DeskView, HasLooked, HasMet, Sight, TellsUnlessAlone}
 use Rattle.book.specs.declared.proposal.Proposal.TheVariants as proposals
 use Rattle.holdings.specs.Holding.{HeldView, held_on, row_held}
-use Rattle.node.specs.Answers.{received, taken_in}
+use Rattle.node.specs.Answers.{received}
 use Rattle.node.specs.Fits.{Fits}
 use Rattle.node.specs.Messages.{IsDeliverable, IsOutgoing, IsSoBy, IsSoIn, IsVouchedFor}
 use Rattle.node.specs.Workers.{NodeView, Worker, worker_at}
@@ -61,42 +61,6 @@ so_met case old new (Some sight) message same so vouched tells met looked =
 -- what it answers where nothing is prepared
 abbrev where_free : Shape → NodeView → Delivery → RowName → Option HeldView → Outcome × Worker
 where_free shape node d sender here = option_map_or (received shape node d sender) here (outcomes.NotMine, worker_at node)
-
--- it waits where a work is prepared
-pub taken-waits : (shape : Shape) (node : NodeView) (d : Delivery) (sender : RowName) → is_some node.prepared ≡ true
-    → (outcomes.Nothing, worker_at node) ≡ taken_in shape node d sender
-taken-waits shape node d sender some = sym (ap (λ b. if b then (outcomes.Nothing, worker_at node)
-    else where_free shape node d sender (held_on shape node.held d.to)) some)
-
--- else it goes by what is held
-pub taken-free : (shape : Shape) (node : NodeView) (d : Delivery) (sender : RowName) (here : Option HeldView)
-    → is_some node.prepared ≡ false → held_on shape node.held d.to ≡ here
-    → taken_in shape node d sender ≡ where_free shape node d sender here
-taken-free shape node d sender here free there =
-    ap (λ b. if b then (outcomes.Nothing, worker_at node) else where_free shape node d sender (held_on shape node.held d.to)) free
-    ∙ ap (where_free shape node d sender) there
-
--- a record of an interval that is not held is another's
-pub taken-not_mine : (shape : Shape) (node : NodeView) (d : Delivery) (sender : RowName) → is_some node.prepared ≡ false
-    → held_on shape node.held d.to ≡ None → (outcomes.NotMine, worker_at node) ≡ taken_in shape node d sender
-taken-not_mine shape node d sender free there = sym (taken-free shape node d sender None free there)
-
--- a record that is finished is acknowledged
-pub taken-again : (shape : Shape) (node : NodeView) (d : Delivery) (sender : RowName) (held : HeldView) → is_some node.prepared ≡ false
-    → held_on shape node.held d.to ≡ Some held → is_finished d.id (row_held shape held d.to) ≡ true
-    → (outcomes.Duplicate, worker_at (record node { outbox = node.outbox ++ outgoing.Ack sender d.id ∷ [] })) ≡ taken_in shape node d sender
-taken-again shape node d sender held free there finished = sym (taken-free shape node d sender (Some held) free there
-    ∙ ap (λ b. if b then (outcomes.Duplicate, worker_at (record node { outbox = node.outbox ++ outgoing.Ack sender d.id ∷ [] }))
-    else (outcomes.Prepared, record (worker_at node) { prepared = Some (record { delivery = d; sender = sender }) })) finished)
-
--- a record that is not is prepared
-pub taken-new : (shape : Shape) (node : NodeView) (d : Delivery) (sender : RowName) (effects : EffectsView) (held : HeldView)
-    → is_some node.prepared ≡ false → held_on shape node.held d.to ≡ Some held → is_finished d.id (row_held shape held d.to) ≡ false
-    → (outcomes.Prepared, worker_at (record node { prepared = Some (record { sender = sender; proposal = proposals.Handle d effects }) }))
-    ≡ taken_in shape node d sender
-taken-new shape node d sender effects held free there new = sym (taken-free shape node d sender (Some held) free there
-    ∙ ap (λ b. if b then (outcomes.Duplicate, worker_at (record node { outbox = node.outbox ++ outgoing.Ack sender d.id ∷ [] }))
-    else (outcomes.Prepared, record (worker_at node) { prepared = Some (record { delivery = d; sender = sender }) })) new)
 
 -- ---- and whether it fits then
 

@@ -32,10 +32,6 @@ outgoing_send = search (sendable, deliveries.the_field_send, names.the_field_sen
 outbox_send : IsSend Outbox.the_row
 outbox_send = search (sendable, crosses, outgoing_send) depth 30
 
--- a message, where its note may cross
-pub message_send : (N : RattleType) (g : Ghosts N.Denot) → IsSend N → IsSend (Message.the_row N g)
-message_send N g s = search (sendable, crosses, deliveries.the_field_send, names.the_field_send, ids.the_field_send) depth 30
-
 -- a worker, where the notes of its messages may cross
 pub node_send : (N : RattleType) (g : Ghosts N.Denot) → IsSend N → IsSend (Node.the_row N g)
 node_send N g s = search (sendable, crosses, holdings_send, work_send, outbox_send) depth 30

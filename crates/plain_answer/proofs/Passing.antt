@@ -21,7 +21,7 @@ use Rattle.row_parts.specs.Contents.{Contents}
 use Rattle.computations.specs.Handlers.{has_kind, effects_of_record, effects_of_timer}
 use Rattle.run_history.specs.Cases.{CaseShape}
 use Rattle.run_history.specs.Made.{row_written, produced}
-use Rattle.run_history.specs.Runs.{Run, run_of, row_of, followed, changed}
+use Rattle.run_history.specs.Runs.{Run, run_of, row_of, changed}
 use Rattle.run_history.specs.Legal.{MayHandle, MayFire, MayFollow, IsLegal}
 use Rattle.run_history.proofs.RunLaws.{run_of-push}
 use Rattle.history_laws.proofs.FitLaws.{legal-of_kind, of_kind}

@@ -19,7 +19,7 @@ use Rattle.mw_types.specs.Orders.{row_cmp}
 use Rattle.mw_types.specs.Outcomes.{EffectsView}
 use Rattle.computations.specs.Handlers.{one_more, due_time, held_with, spike_record, spike_timer, total_due, is_spike, known_with, unchanged, outcome_with_timer, outcome_with_record, effects_of_record, effects_of_timer}
 use Rattle.run_history.specs.Made.{produced}
-use Rattle.plain_answer.specs.Plain.{sum_of_last, spike_at, spikes_in}
+use Rattle.plain_answer.specs.Plain.{sum_of_last, spike_at}
 use Rattle.plain_answer.specs.Places.{with_place}
 use Rattle.plain_answer.proofs.Places.{held_timer, Climb, AreLow, first-total, lastly, lastly-push, enough-known}
 

@@ -4,7 +4,6 @@ use Rattle.std.specs.Prelude.{Some, ◌⊎◌, unwrap_or, slice_get}
 use Rattle.std.proofs.lemmas.Option.{slice_get_within, get_or_from_slice_get, slice_get-get_or}
 use Rattle.std.specs.List.{AllByRecursion}
 use Rattle.std.proofs.lemmas.List.{append-nil, take-append-drop, take_more}
-use Rattle.std.proofs.Math.Seq.{take-append_seam}
 use Rattle.mw_types.specs.declared.entry.Entry.{Entry}
 use Rattle.run_history.specs.Fences.{Begins}
 use Rattle.list_lemmas.proofs.Lists.{some_same, none_some}
@@ -112,11 +111,3 @@ Begins-take history n e at =
     let up_to : take (n + 1) history ≡ take n history ++ e ∷ [] =
     take_more history n e within ∙ ap (λ x. take n history ++ x ∷ []) (get_or_from_slice_get history n e e at) in
     (drop (n + 1) history, ap (λ l. l ++ drop (n + 1) history) (sym up_to) ∙ take-append-drop (n + 1) history)
-
--- an entry behind a beginning stands at its place, and what is before that place is the beginning
-pub Begins-entry : (before history : List Entry) (e : Entry) → Begins (before ++ e ∷ []) history
-    → (slice_get history (length before) ≡ Some e) × (take (length before) history ≡ before)
-Begins-entry before history e begins = (
-  Begins-at (before ++ e ∷ []) history (length before) e begins (slice_get-last before e),
-  ap (take (length before)) (sym begins.1 ∙ append_assoc before (e ∷ []) begins.0) ∙ take-append_seam before (e ∷ begins.0),
-)

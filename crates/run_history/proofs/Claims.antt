@@ -160,11 +160,6 @@ last_claim-latest interval seq worker history at =
           ∙ ap (λ o. claim_from interval (length (take (seq + 1) history)) o (drop (seq + 1) history)) claimed ∙ later.2,
     )
 
--- the last claim of an interval stays the last where the entries behind have no claim of it
-pub last_claim-stays : (interval s : ℕ) (front rest : List Entry) → last_claim interval front ≡ Some s
-    → AllByRecursion (λ e. is_claim interval e ≡ false) rest → last_claim interval (front ++ rest) ≡ Some s
-last_claim-stays interval s front rest last none = last_claim-rest interval front rest none ∙ last
-
 -- the last claim of an interval is a place of the history
 pub last_claim-within : (interval s : ℕ) (history : List Entry) → last_claim interval history ≡ Some s → s < length history
 last_claim-within interval s history last =

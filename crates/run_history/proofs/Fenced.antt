@@ -1,5 +1,5 @@
 -- Fenced histories, their beginnings, and how they go on.
-use Rattle.std.proofs.Common.{◌≡◌, ℕ, Bool, true, false, List, [], ◌∷◌, ◌++◌, length, take, refl, sym, ◌∙◌, ap, subst, arith, append_assoc, length-append, inl, inr, ◌==◌, ◌&&◌}
+use Rattle.std.proofs.Common.{◌≡◌, ℕ, Bool, true, false, List, [], ◌∷◌, ◌++◌, take, refl, sym, ◌∙◌, ap, subst, arith, append_assoc, length-append, inl, inr, ◌==◌, ◌&&◌}
 use Rattle.std.specs.Prelude.{⊤, Option, Some, None, ◌⊎◌, slice_get}
 use Rattle.std.proofs.lemmas.Bool.{eqb-true}
 use Rattle.std.specs.Cmp.{first_so, second_so}
@@ -12,7 +12,7 @@ use Rattle.topology.specs.Shapes.{Shape}
 use Rattle.run_history.specs.Made.{row_written}
 use Rattle.run_history.specs.Fences.{Begins, interval_of, sequencer_of, last_claim, IsUnderLastClaim, IsFenced}
 use Rattle.list_lemmas.proofs.Lists.{some_same, none_some}
-use Rattle.run_history.proofs.Beginnings.{Begins-trans, Begins-length, Begins-push, push_same, Begins-take, Begins-entry}
+use Rattle.run_history.proofs.Beginnings.{Begins-trans, Begins-length, Begins-push, push_same, Begins-take}
 
 -- a beginning of a fenced history is fenced
 pub IsFenced-begins : (shape : Shape) (front history : List Entry) → Begins front history → IsFenced shape history → IsFenced shape front
@@ -114,10 +114,3 @@ IsFenced-tested shape history e = IsFenced-all shape history [] (IsFenced-empty 
 pub IsFenced-at : (shape : Shape) (history : List Entry) (n : ℕ) (entry : Entry) → IsFenced shape history → slice_get history n ≡ Some entry
     → IsUnderLastClaim shape (take n history) entry
 IsFenced-at shape history n entry fenced at = fenced (take n history) entry (Begins-take history n entry at)
-
--- and back: a history of which each entry, by its number, is under the last claim of its row's interval is fenced
-pub IsFenced-each : (shape : Shape) (history : List Entry)
-    → ((n : ℕ) (entry : Entry) → slice_get history n ≡ Some entry → IsUnderLastClaim shape (take n history) entry) → IsFenced shape history
-IsFenced-each shape history each before entry begins =
-    let place = Begins-entry before history entry begins in
-    subst (λ l. IsUnderLastClaim shape l entry) place.1 (each (length before) entry place.0)

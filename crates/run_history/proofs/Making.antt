@@ -1,11 +1,11 @@
 -- One step of a loop that makes something of each element, where the invariant speaks of the elements that are left.
-use Rattle.std.proofs.Common.{◌≡◌, ℕ, ◌+◌, ◌<◌, ◌≤◌, List, [], ◌∷◌, ◌++◌, length, get_or, take, drop, map, filter, sum_by, nat_eq, sym, ◌∙◌, ap, append_assoc, arith, length-append}
+use Rattle.std.proofs.Common.{◌≡◌, ℕ, ◌+◌, ◌<◌, ◌≤◌, List, [], ◌∷◌, ◌++◌, length, get_or, drop, map, filter, sum_by, nat_eq, sym, ◌∙◌, ap, append_assoc, arith, length-append}
 use Rattle.std.specs.List.{flat_map, enumerate_from}
 use Rattle.std.specs.Cmp.Lexicographic.{pointwise}
-use Rattle.std.proofs.lemmas.List.{at_drop_more, at_drop_all, take_more, map-append, length-map, append-nil}
+use Rattle.std.proofs.lemmas.List.{at_drop_more, at_drop_all, map-append, length-map, append-nil}
 use Rattle.std.proofs.lemmas.List.Folds.{flat_map-map}
 use Rattle.std.proofs.lemmas.List.FromFn.{length-enumerate_from}
-use Rattle.std.proofs.lemmas.List.Sums.{sum_by-cons, sum_by-append, length-filter, count_by-le-length}
+use Rattle.std.proofs.lemmas.List.Sums.{sum_by-cons, length-filter, count_by-le-length}
 use Rattle.topology.specs.Shapes.{ComputationShape, Reading, subscriptions_to}
 
 -- the numbering goes on behind the first list
@@ -15,17 +15,6 @@ enumerate_from-append n [] ys = ap (λ m. enumerate_from m ys) (omega arith)
 enumerate_from-append n (x ∷ xs) ys =
     let next : n + 1 + length xs ≡ n + length (x ∷ xs) = omega arith in
     ap (λ l. (n, x) ∷ l) (enumerate_from-append (n + 1) xs ys ∙ ap (λ m. enumerate_from (n + 1) xs ++ enumerate_from m ys) next)
-
--- one more numbered element
-pub numbered_step : {X Y Z : Type 0} (f : ℕ × Z → Y) (g : X → Z) (xs : List X) (i n m : ℕ) (x : X) (done all : List Y)
-    → i < length xs → x ≡ get_or xs i x → m ≡ n + 1 → done ++ map f (enumerate_from n (map g (drop i xs))) ≡ all
-    → (done ++ f (n, g x) ∷ []) ++ map f (enumerate_from m (map g (drop (i + 1) xs))) ≡ all
-numbered_step f g xs i n m x done all within is next left =
-    append_assoc done _ _
-    ∙ ap (λ k. done ++ (f (n, g x) ∷ map f (enumerate_from k (map g (drop (i + 1) xs))))) next
-    ∙ ap (λ y. done ++ (f (n, g y) ∷ map f (enumerate_from (n + 1) (map g (drop (i + 1) xs))))) is
-    ∙ sym (ap (λ l. done ++ l) (at_drop_more (λ l. map f (enumerate_from n (map g l))) xs i x within))
-    ∙ left
 
 -- one more element, which gives a list of numbered elements
 pub many_step : {X Y Z : Type 0} (f : ℕ × Z → Y) (h : X → List Z) (xs : List X) (i n m : ℕ) (x : X) (done all : List Y)
@@ -70,13 +59,6 @@ sent_all f g v xs i done over left =
     ∙ sym (at_drop_all (λ l. done ++ map f (enumerate_from (length done) (flat_map (λ x. g (v x)) l))) xs i over)
     ∙ left
     ∙ sym (ap (λ l. map f (enumerate_from 0 l)) (flat_map-map g v xs))
-
--- one more element is counted
-pub count_step : {X : Type 0} (p : X → ℕ) (xs : List X) (i n m : ℕ) (x : X)
-    → i < length xs → x ≡ get_or xs i x → n ≡ sum_by p (take i xs) → m ≡ n + sum_by p (x ∷ []) → m ≡ sum_by p (take (i + 1) xs)
-count_step p xs i n m x within is before now =
-    now ∙ ap (λ k. k + sum_by p (x ∷ [])) before ∙ ap (λ y. sum_by p (take i xs) + sum_by p (y ∷ [])) is
-    ∙ sym (ap (sum_by p) (take_more xs i x within) ∙ sum_by-append p (take i xs) (get_or xs i x ∷ []))
 
 -- a computation subscribes no more often than it reads
 subscriptions_few : (stream : List ℕ) (n : ℕ) (c : ComputationShape) → length (subscriptions_to stream (n, c)) ≤ length c.reads

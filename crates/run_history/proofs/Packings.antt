@@ -1,5 +1,5 @@
 -- Details that are kept, and what their entries are then.
-use Rattle.std.proofs.Common.{◌≡◌, ◌-◌, ◌<◌, ◌≤◌, List, [], ◌∷◌, ◌++◌, length, get_or, take, map, All, Err, Ok, OnErr, Result, refl, sym, ◌∙◌, ap, subst, arith, length-append}
+use Rattle.std.proofs.Common.{◌≡◌, ◌-◌, ◌<◌, ◌≤◌, List, [], ◌∷◌, ◌++◌, length, get_or, take, map, All, refl, sym, ◌∙◌, ap, subst, arith, length-append}
 use Rattle.std.specs.List.{AllByRecursion}
 use Rattle.std.proofs.lemmas.Grind.{common_steps}
 use Rattle.std.proofs.lemmas.List.{get_or_append_left, get_or_push, map-append}
@@ -188,18 +188,6 @@ same_before p a b same = sym (less_of_more p a) ∙ ap (less_entry p) same ∙ l
 
 -- ---- the entries of a history
 
--- no entry
-pub packed_none : (d : Details) → counts_of d ≡ none_yet → ArePacked d []
-packed_none d none = record { each = λ k x below. absurd (omega arith); numbered = sym none }
-
--- details with more names
-pub packed_same : (old new : Details) (ps : List Packed) → KeepsDetails old new → counts_of new ≡ counts_of old
-    → ArePacked old ps → ArePacked new ps
-packed_same old new ps keeps same are = record {
-  each = each_kept old new ps keeps are.each;
-  numbered = subst (AreNumbered none_yet ps) (sym same) are.numbered;
-}
-
 -- one entry more
 pub packed_more : (old new : Details) (ps : List Packed) (p : Packed) → KeepsDetails old new → IsPacked new p
     → IsNext (counts_of old) p → counts_of new ≡ with_entry p (counts_of old) → ArePacked old ps
@@ -256,11 +244,6 @@ unpacked_rest old new all ps p is keeps are =
     ap (map (unpacked old)) is
     ∙ map-append (unpacked old) ps (p ∷ [])
     ∙ ap (λ l. l ++ unpacked old p ∷ []) (map_kept new old ps keeps are.each)
-
--- what holds holds beside a refusal too
-pub anyway : {T E P : Type 0} (result : Result T E) → P → OnErr result P
-anyway (Ok x) p = tt
-anyway (Err e) p = p
 
 -- all but the last
 pub all_but_last : {X : Type 0} (rest all : List X) (x : X) → all ≡ rest ++ x ∷ [] → rest ≡ take (length all - 1) all

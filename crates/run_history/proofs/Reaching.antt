@@ -1,10 +1,9 @@
 -- How far a history has been followed, entry by entry, and what it emitted so far.
-use Rattle.std.proofs.Common.{◌≡◌, ℕ, ◌+◌, ◌<◌, ◌≤◌, ◌^◌, Bool, cond, List, [], ◌∷◌, ◌++◌, length, get_or, take, map, All, refl, sym, ◌∙◌, ap, subst, arith, length-append}
+use Rattle.std.proofs.Common.{◌≡◌, ℕ, ◌+◌, ◌<◌, ◌≤◌, ◌^◌, Bool, cond, List, [], ◌∷◌, ◌++◌, length, get_or, take, map, All, sym, ◌∙◌, ap, subst, arith, length-append}
 use Rattle.std.specs.Prelude.{IfSome, None, Option, Some}
 use Rattle.std.specs.Option.{option_map_or}
 use Rattle.std.specs.List.{AllByRecursion, enumerate_from}
-use Rattle.std.proofs.lemmas.Bool.{le-ltb}
-use Rattle.std.proofs.lemmas.List.{length-map, length-take-le, take_all, take_more}
+use Rattle.std.proofs.lemmas.List.{length-map, length-take-le, take_more}
 use Rattle.std.proofs.lemmas.List.Elements.{All-append, All-from_recursion, All-map}
 use Rattle.mw_types.specs.declared.record.Record.{Record}
 use Rattle.mw_types.specs.declared.delivery.Emission.{Emission}
@@ -20,13 +19,6 @@ use Rattle.run_history.proofs.Knowing.{knows_more}
 use Rattle.run_history.proofs.RunLaws.{next-length, run_of-push}
 
 -- ---- what is known of the deliveries
-
--- no entry
-pub followed_none : (shape : Shape) (late : List ℕ) → late ≡ [] → HasFollowed shape [] late
-followed_none shape late none = subst (HasFollowed shape []) (sym none) (record {
-  each = refl;
-  knows = record { known = λ id. sym (le-ltb id.index 0 (omega arith)); so_far = λ id past. refl };
-})
 
 -- one more entry
 pub followed_more : (shape : Shape) (history : List Entry) (entry : Entry) (late late' : List ℕ) → HasFollowed shape history late
@@ -140,9 +132,3 @@ reached_step shape entries at entry late late' emissions emissions' within is re
           ∙ ap (λ (h : List Entry). (run_of shape h).emissions) more;
       parts = parts reached.parts;
     }
-
--- all entries
-pub reached_all : (shape : Shape) (entries : List Entry) (at : ℕ) (late : List ℕ) (emissions : List Emission)
-    → length entries ≤ at → Reached shape entries at late emissions → emissions ≡ (run_of shape entries).emissions
-reached_all shape entries at late emissions all reached =
-    reached.emitted ∙ ap (λ (h : List Entry). (run_of shape h).emissions) (take_all at entries all)

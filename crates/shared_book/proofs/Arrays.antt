@@ -1,10 +1,8 @@
 -- What a seat's arrays have of an interval is what its view has settled of it.
-use Rattle.std.proofs.Common.{◌≡◌, ◌∙◌, ℕ, zero, suc, cond, List, [], ◌∷◌, map, get_or, refl, sym, ap, eq-eqb, ne_eqb}
+use Rattle.std.proofs.Common.{◌≡◌, ◌∙◌, ℕ, zero, suc, List, [], ◌∷◌, map, get_or, refl, sym, ap}
 use Rattle.std.specs.Prelude.{slice_set}
-use Rattle.book.specs.Books.{LeaseView}
 use Rattle.shared_book.specs.declared.views.Settled.{Settled}
-use Rattle.shared_book.specs.declared.views.View.{View}
-use Rattle.shared_book.specs.Places.{nothing, place_of, input_under}
+use Rattle.shared_book.specs.Places.{nothing, place_of}
 
 -- a number of each place is that of the place
 pub index-mapped : (f : Settled → ℕ) → f nothing ≡ 0 → (l : List Settled) (i : ℕ) → get_or (map f l) i 0 ≡ f (place_of l i)
@@ -23,17 +21,3 @@ pub map-set_place : (f : Settled → ℕ) (l : List Settled) (i : ℕ) (p : Sett
 map-set_place f [] i p = refl
 map-set_place f (q ∷ qs) zero p = refl
 map-set_place f (q ∷ qs) (suc i) p = ap (λ l. f q ∷ l) (map-set_place f qs i p)
-
--- the input mark of a lease that is the seat's newest of its interval
-pub input-newest : (v : View) (lease : LeaseView) (claim input : ℕ) → claim ≡ (place_of v.settled lease.interval).claim
-    → input ≡ (place_of v.settled lease.interval).input → claim ≡ suc lease.seq → input ≡ input_under v lease
-input-newest v lease claim input is fed newest =
-    fed ∙ sym (ap (λ b. cond b (place_of v.settled lease.interval).input 0)
-    (eq-eqb (place_of v.settled lease.interval).claim (suc lease.seq) (sym is ∙ newest)))
-
--- of another it is 0
-pub input-other : (v : View) (lease : LeaseView) (claim : ℕ) → claim ≡ (place_of v.settled lease.interval).claim
-    → (claim ≡ suc lease.seq → ⊥) → 0 ≡ input_under v lease
-input-other v lease claim is other =
-    sym (ap (λ b. cond b (place_of v.settled lease.interval).input 0)
-    (ne_eqb (place_of v.settled lease.interval).claim (suc lease.seq) (λ e. other (is ∙ e))))

@@ -7,7 +7,7 @@ use Rattle.std.proofs.lemmas.List.Elements.{All-nil}
 use Rattle.atomic_table.specs.Seated.{TableId}
 use Rattle.mw_types.specs.declared.entry.Entry.{Entry}
 use Rattle.run_history.specs.Cases.{CaseShape, intervals_of}
-use Rattle.run_history.specs.Fences.{Begins, IsFenced, known, sequencer_of}
+use Rattle.run_history.specs.Fences.{IsFenced, known, sequencer_of}
 use Rattle.run_history.specs.Marks.{own_work}
 use Rattle.run_history.specs.Runs.{run_of}
 use Rattle.run_history.proofs.CaseIntervals.{length-intervals}
@@ -19,7 +19,7 @@ use Rattle.watermark.specs.Marks.{mark_of}
 use Rattle.run_history.specs.Inputs.{IsRunnable}
 use Rattle.book.specs.Books.{LeaseView}
 use Rattle.book.specs.Conditions.{IsOwnWork}
-use Rattle.book.specs.Desks.{HasLooked, HasMet, IsSound, KeepsMarks, Sight}
+use Rattle.book.specs.Desks.{HasLooked, IsSound, KeepsMarks, Sight}
 use Rattle.book.specs.OwnDesks.{is_claimed}
 use Rattle.book.proofs.Numbers.{own-stays}
 use Rattle.book.proofs.OwnLaws.{claimed-is_claimed, is_claimed-claimed}
@@ -30,7 +30,7 @@ use Rattle.shared_book.specs.FenceLaw.{AreClaimed}
 use Rattle.shared_book.specs.MarkSteps.{IsOwnSettled, released}
 use Rattle.shared_book.specs.Places.{place_of, with_mark_loaded}
 use Rattle.shared_book.specs.SharedDesks.{HasKept, is_held, shared_view, sight_of, table_numbers}
-use Rattle.shared_book.specs.Steps.{HasSeenLawful, HasSeenSettled, SeatView, missing}
+use Rattle.shared_book.specs.Steps.{HasSeenLawful, HasSeenSettled, SeatView}
 use Rattle.shared_book.specs.Turns.{HasMetForeign, HasTurn}
 use Rattle.shared_book.proofs.Appending.{lawful_legal}
 use Rattle.shared_book.proofs.Held.{held-in}
@@ -74,10 +74,6 @@ kept-turn w turn = record {
     v : View
     v = w.0
 
--- another had the turn
-pub kept-busy : (old new : SeatView) (found : ℕ) → new ≡ (missing old.0 found, old.1) → HasKept old.0 → HasKept new.0
-kept-busy old new found is kept = subst (λ (m : SeatView). HasKept m.0) (sym is) kept
-
 -- what always holds of a desk
 pub sound : (v : View) → length v.marks ≡ 61 → IsRunnable v.basis.case → HasKept v → IsSound (shared_view v)
 sound v long runs kept = record {
@@ -112,15 +108,6 @@ one-table one other same = λ i. record {
 
     number : ℕ → List ℕ → ℕ
     number n l = get_or l n 0
-
--- what a note tells is seen by a desk that met it
-pub met-sight : (w m : View) → w.basis ≡ m.basis → Begins w.front m.front → HasMet (sight_of w) (shared_view m)
-met-sight w m same begins = by_told w.basis.told
-  where
-    by_told : (o : Option Unit) → HasMet (option_map (λ _. record { case = w.basis.case; seen = w.front }) o)
-        (shared_view m)
-    by_told None = tt
-    by_told (Some x) = (ap (λ (b : Basis). b.case) same, begins)
 
 -- a note tells where its seat is told, since both are of one book
 pub tells : (w v : View) → w.basis ≡ v.basis → IsSome v.basis.told → IsSome (sight_of w)

@@ -76,10 +76,6 @@ seat_field_send K g s = search (sendable, crosses, core_send, places.the_send) d
 pub note_send : (K : RattleType) (g : Ghosts K.Denot) → IsSend K → IsSend (Note.the_row K g)
 note_send K g s = search (sendable, crosses, core_send, places.the_send) depth 30
 
--- a note as a field, where its keeper may cross
-pub note_field_send : (K : RattleType) (g : Ghosts K.Denot) → IsSend K → IsSend (Note.the_field K g).row
-note_field_send K g s = search (sendable, crosses, core_send, places.the_send) depth 30
-
 -- the place of the table, where the keeper may cross
 pub option_send : (K : RattleType) (g : Ghosts K.Denot) → IsSend K → IsSend (Option.the_row (Core.the_row K g))
 option_send K g s = search (sendable, crosses, core_send) depth 30

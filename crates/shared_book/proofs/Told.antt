@@ -3,7 +3,7 @@ use Rattle.std.proofs.Common.{◌≡◌, ℕ, zero, suc, ◌+◌, ◌%◌, ◌^�
 use Rattle.std.specs.Prelude.{MatchBool, max}
 use mathlib.Core.Option.{none}
 use prog.Atomic.{either}
-use Rattle.atomic_table.specs.Table.{Allows, step, rest}
+use Rattle.atomic_table.specs.Table.{Allows, step}
 use Rattle.mw_types.specs.Causes.{Rose}
 use Rattle.mw_types.specs.declared.entry.Entry.{Entry}
 use Rattle.run_history.specs.Legal.{floor_of}
@@ -32,10 +32,6 @@ use Rattle.shared_book.proofs.Appending.{appends_one, gives_turn, faults_one, lo
 use Rattle.shared_book.proofs.Starting.{lift}
 
 -- ---- what a seat may do
-
--- what is left behind the first
-pub first_is : (l r : List (ℕ × Slot)) (x : ℕ × Slot) → l ≡ x ∷ r → l ≡ x ∷ rest l
-first_is l r x e = e ∙ ap (λ k. x ∷ rest k) (sym e)
 
 -- a list whose first is told begins with it
 pub first_number : (l : List ℕ) (n : ℕ) → first_of l ≡ n ∷ [] → (ns : List ℕ) × (l ≡ n ∷ ns)
@@ -196,11 +192,6 @@ abbrev slot_or : List (ℕ × Slot) → Slot → Slot
 slot_or [] d = d
 slot_or (x ∷ xs) d = x.1
 
--- two books of one place are one
-pub same_core : (l : List (ℕ × Slot)) (b d : CoreView) (r : List (ℕ × Slot)) → l ≡ (0, Some b) ∷ [] → l ≡ (0, Some d) ∷ r
-    → (b ≡ d) × (r ≡ [])
-same_core l b d r p q = (ap (λ m. core_of (slot_or m None) b) (sym p ∙ q), sym (ap rest (sym p ∙ q)))
-
 -- the leases of a view that appended stand in what was seen
 grown_claimed : (v : View) (e : Entry) → AreClaimed v.front v.leases
     → AreClaimed (v.front ++ e ∷ []) ((grown v (v.front ++ e ∷ [])).leases)
@@ -269,12 +260,6 @@ pub turn_home : (old out new : SeatView) (a b : CoreView) → out ≡ (old.0, (0
 turn_home old out new a b was is same t core claimed =
     turn_back old new b (is ∙ ap (λ (m : SeatView). (m.0, (0, Some b) ∷ [])) was) t
     (subst (λ (x : CoreView). IsCore old.0.basis old.0.front old.0.count x) (sym same) core) claimed
-
--- a seat with the turn once another book of the same history is in the place
-pub turn_left : (old out new : SeatView) (b : CoreView) → out ≡ (old.0, (0, None) ∷ []) → new ≡ (out.0, (0, Some b) ∷ [])
-    → old.0.turn ≡ true → IsCore old.0.basis old.0.front old.0.count b → AreClaimed old.0.front old.0.leases → HasTurn new
-turn_left old out new b was is t core claimed =
-    turn_back old new b (is ∙ ap (λ (m : SeatView). (m.0, (0, Some b) ∷ [])) was) t core claimed
 
 -- the turn goes on where the floor was raised
 pub turn_floor : (old new : SeatView) (floor : ℕ) → new ≡ (with_floor_loaded old.0 floor, old.1) → HasTurn old → HasTurn new

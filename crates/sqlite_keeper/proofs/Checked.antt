@@ -1,5 +1,5 @@
 -- What the test of an answer shows.
-use Rattle.std.proofs.Common.{◌≡◌, ◌∷◌, [], List, true, map, ◌&&◌}
+use Rattle.std.proofs.Common.{◌≡◌, ◌∷◌, [], List, true, map}
 use Rattle.std.specs.List.{All, AllByRecursion}
 use Rattle.std.specs.List.Sorted.{IsStrictlySortedBy}
 use Rattle.std.specs.Map.{keys_of}

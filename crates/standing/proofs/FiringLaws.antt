@@ -1,23 +1,19 @@
 -- What is known of a timer that fires next, and of a row of which none may.
 use Rattle.std.proofs.Common.{◌≡◌, ◌∙◌, ◌<◌, ◌≤◌, ◌&&◌, ℕ, Bool, true, false, cond, List, length, refl, sym, ap, subst, arith}
-use Rattle.std.specs.Prelude.{None, Option, Some, is_some, slice_get, unwrap_or, ◌==◌}
+use Rattle.std.specs.Prelude.{Option, Some, is_some, slice_get, unwrap_or, ◌==◌}
 use Rattle.std.specs.Option.{option_map_or}
 use Rattle.std.proofs.lemmas.Bool.{eqb-true, ltb-false}
 use Rattle.std.proofs.lemmas.Option.{slice_get_within}
-use Rattle.list_lemmas.proofs.Lists.{none_some}
 use Rattle.list_lemmas.proofs.Tests.{both_true}
 use Rattle.mw_types.specs.declared.identity.RowName.{RowName}
 use Rattle.mw_types.specs.declared.kind.Kind.{Kind}
 use Rattle.mw_types.specs.declared.timer.Timer.{Timer}
 use Rattle.mw_types.specs.declared.entry.Entry.{Entry}
-use Rattle.mw_types.specs.declared.entry.Entry.TheVariants.{Claim, Inject, Handle, Fire, Ack, Purge}
-use Rattle.mw_types.specs.Outcomes.{EffectsView}
 use Rattle.topology.specs.Shapes.{Shape, injectors_of, kind_of, parts_of}
 use Rattle.computations.specs.Handlers.{has_kind}
 use Rattle.row_parts.specs.Contents.{Contents, fresh}
 use Rattle.run_history.specs.Cases.{CaseShape, fresh_of, is_injector, source_of}
 use Rattle.run_history.specs.Fits.{is_cursor_within, suits_part}
-use Rattle.run_history.specs.Legal.{timer_outcome}
 use Rattle.run_history.specs.Runs.{Run, cached, row_in, row_of, run_of}
 use Rattle.run_history.specs.Watermarks.{low_watermark}
 use Rattle.run_history.proofs.Fitting.{fits-parts}
@@ -26,9 +22,7 @@ use Rattle.history_laws.proofs.PrintLaws.{legal-on_parts}
 use Rattle.node.specs.Works.{IsStateThere}
 use Rattle.trace_lines.specs.declared.choice.Choice.TheVariants as choices
 use Rattle.standing.specs.declared.kept.Kept.{Kept}
-use Rattle.standing.specs.Choices.{IsChosen}
 use Rattle.standing.specs.Keeping.{IsFollowed, IsKept, sequencer_for}
-use Rattle.standing.proofs.ChoiceLaws.{number_in, row_in_choice, under-from}
 use Rattle.standing.proofs.FoundLaws.{state-there}
 use Rattle.standing.proofs.KeepingLaws.{row-kept}
 
@@ -74,26 +68,6 @@ timer-state case history kept name row timer follows keeps there first =
 
 -- ---- which entry it is
 
--- a row fires its least timer
-pub firing-chosen : (case : CaseShape) (history : List Entry) (name : RowName) (row : Contents) (timer : Timer) (mark seq : ℕ)
-    (effects : EffectsView) → row_in (run_of case.topology history) name ≡ Some row → slice_get row.timers 0 ≡ Some timer
-    → timer.time ≤ mark → mark ≤ low_watermark case (run_of case.topology history) name.part
-    → timer_outcome case name row timer ≡ Some effects → sequencer_for case.topology history name ≡ Some seq
-    → IsChosen case history (choices.Fire name mark) (Some (Fire seq name timer mark effects))
-firing-chosen case history name row timer mark seq effects there first due under does claimed =
-    let same = row-of_there case.topology (run_of case.topology history) name row there in (
-      refl,
-      record {
-        may = record {
-          least_timer = ap (λ (c : Contents). slice_get c.timers 0) same ∙ first;
-          due = due;
-          under_watermark = under;
-          does = ap (λ (c : Contents). timer_outcome case name c timer) same ∙ does;
-        };
-        under = under-from case.topology history (Fire seq name timer mark effects) name seq refl refl claimed;
-      },
-    )
-
 -- what a row has to have to fire
 pub record MayFireNext (case : CaseShape) (history : List Entry) (name : RowName) (mark : ℕ) : Type 0 where
   pub seq : ℕ
@@ -102,40 +76,3 @@ pub record MayFireNext (case : CaseShape) (history : List Entry) (name : RowName
   pub due : timer.time ≤ mark
   pub under : mark ≤ low_watermark case (run_of case.topology history) name.part
   pub claimed : sequencer_for case.topology history name ≡ Some seq
-
--- no entry, where one of these does not hold
-pub firing-none : (case : CaseShape) (history : List Entry) (name : RowName) (mark : ℕ) → (MayFireNext case history name mark → ⊥)
-    → IsChosen case history (choices.Fire name mark) None
-firing-none case history name mark never (Fire seq row timer m effects) same may =
-    never (subst (λ (n : RowName). MayFireNext case history n mark) (ap row_in_choice same)
-    (subst (MayFireNext case history row) (ap number_in same) (record {
-      seq = seq;
-      timer = timer;
-      first = may.may.least_timer;
-      due = may.may.due;
-      under = may.may.under_watermark;
-      claimed = may.under row refl;
-    })))
-firing-none case history name mark never (Claim worker interval) same may = absurd cc
-firing-none case history name mark never (Inject seq part line item) same may = absurd cc
-firing-none case history name mark never (Handle seq row id effects) same may = absurd cc
-firing-none case history name mark never (Ack seq row id) same may = absurd cc
-firing-none case history name mark never (Purge seq row floor) same may = absurd cc
-
--- a row that is not there has no timer
-pub absent-none : (case : CaseShape) (history : List Entry) (name : RowName) (mark : ℕ)
-    → row_in (run_of case.topology history) name ≡ None → IsChosen case history (choices.Fire name mark) None
-absent-none case history name mark none = firing-none case history name mark (λ may.
-    none_some may.timer (sym (ap (λ (o : Option Contents).
-    slice_get (unwrap_or o (fresh (fresh_of case.topology name.part))).timers 0) none) ∙ may.first))
-
--- of a row that is there its least timer has to be due, and under the watermark
-pub timer-none : (case : CaseShape) (history : List Entry) (name : RowName) (row : Contents) (mark : ℕ)
-    → row_in (run_of case.topology history) name ≡ Some row
-    → ((timer : Timer) (seq : ℕ) → slice_get row.timers 0 ≡ Some timer → timer.time ≤ mark
-    → mark ≤ low_watermark case (run_of case.topology history) name.part → sequencer_for case.topology history name ≡ Some seq → ⊥)
-    → IsChosen case history (choices.Fire name mark) None
-timer-none case history name row mark there never = firing-none case history name mark (λ may.
-    never may.timer may.seq
-    (sym (ap (λ (c : Contents). slice_get c.timers 0) (row-of_there case.topology (run_of case.topology history) name row there)) ∙ may.first)
-    may.due may.under may.claimed)

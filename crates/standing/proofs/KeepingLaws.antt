@@ -9,7 +9,7 @@ use Rattle.std.specs.Ordering.{nat_cmp}
 use Rattle.std.proofs.lemmas.List.{drop_all, drop-append-le}
 use Rattle.std.proofs.lemmas.List.Elements.{recursion_from_All}
 use Rattle.std.proofs.lemmas.List.Kept.{IsStrictlySortedBy-filter}
-use Rattle.list_lemmas.proofs.Lists.{each-append, each-filter, find-each, find-passes, none_some, some_same}
+use Rattle.list_lemmas.proofs.Lists.{each-append, each-filter, find-each, find-passes, some_same}
 use Rattle.list_lemmas.proofs.Places.{each-behind}
 use Rattle.mw_types.specs.Orders.{row_cmp}
 use Rattle.mw_types.specs.declared.identity.RecordId.{RecordId}
@@ -24,7 +24,7 @@ use Rattle.run_history.specs.Fences.{is_claim, last_claim}
 use Rattle.run_history.specs.Legal.{MayFollow}
 use Rattle.run_history.specs.Made.{deliveries_made, deliveries_of, late_cause, productions_of, row_written}
 use Rattle.run_history.specs.Printing.{IsOnPart}
-use Rattle.run_history.specs.Runs.{Run, cached, changed, empty_run, followed, row_after, row_in, row_of, rows_after, run_of, still_unhandled}
+use Rattle.run_history.specs.Runs.{Run, cached, changed, followed, row_after, row_in, row_of, rows_after, run_of, still_unhandled}
 use Rattle.run_history.proofs.Claims.{last_claim-push}
 use Rattle.run_history.proofs.Fenced.{IsFenced-empty, IsFenced-push}
 use Rattle.run_history.specs.Inputs.{IsRunnable}
@@ -322,10 +322,6 @@ kept-claimed case history entry old new keeps none rows waiting pending works wo
           (subst (λ m. AreWorks shape run.unhandled run.rows m.items) (sym works) keeps.works)));
       left = work ∙ keeps.left ∙ sym (unfinished-kept case run entry none) ∙ sym (ap (unfinished case) pushed);
     }
-
--- nothing is pending before any entry
-pub senders-empty : (shape : Shape) → AreSenders shape empty_run []
-senders-empty shape id name = (λ e. absurd (none_some name e), λ p. absurd cc)
 
 -- what four facts of an answer lead to
 pub on_ok-four : {T E P Q R S U : Type 0} (result : Result T E) → (P → Q → R → S → U)

@@ -4,7 +4,7 @@ use Rattle.std.specs.Prelude.{Option, Some, None, not}
 use Rattle.std.specs.List.{AllByRecursion}
 use Rattle.std.specs.List.Sorted.{IsStrictlySortedBy}
 use Rattle.std.specs.Ordering.{nat_cmp, is_eq}
-use Rattle.std.specs.BTreeMap.{insert_entry, is_at}
+use Rattle.std.specs.BTreeMap.{insert_entry}
 use Rattle.std.specs.Cmp.{tied_itself}
 use Rattle.std.specs.declared.cmp.Ordering.{Ordering}
 use Rattle.std.specs.declared.cmp.Ordering.TheVariants.{Less}
@@ -89,12 +89,6 @@ taken-waiting (Handle seq row handled effects) unhandled old new waiting taken i
 taken-waiting (Fire seq row timer mark effects) unhandled old new waiting taken id = taken id ∙ waiting id
 taken-waiting (Ack seq row acknowledged) unhandled old new waiting taken id = taken id ∙ waiting id
 taken-waiting (Purge seq row floor) unhandled old new waiting taken id = taken id ∙ waiting id
-
--- one id is taken out
-pub taken-one : (gone : RecordId) (old new : List (RecordId × Delivery))
-    → ((id : RecordId) → waiting_in new id ≡ cond (is_at (id_cmp gone) id) None (waiting_in old id))
-    → (id : RecordId) → waiting_in new id ≡ cond (same_id id gone) None (waiting_in old id)
-taken-one gone old new removed id = removed id ∙ ap (λ b. cond b None (waiting_in old id)) (tie-same gone id)
 
 -- ---- more are noted
 

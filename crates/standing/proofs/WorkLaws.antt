@@ -218,17 +218,6 @@ any-default [] i d e within = absurd (omega (arith, within))
 any-default (x ∷ xs) zero d e within = refl
 any-default (x ∷ xs) (suc i) d e within = any-default xs i d e (omega (arith, within))
 
--- the end is no stamp that comes or goes
-pub stamp-end_more : (at stamp : ℕ) (works : List (List ℕ)) → stamp ≡ END → HasStampMore at stamp works works
-stamp-end_more at stamp works is part weigh end = by_test (at == part)
-  where
-    by_test : (b : Bool) → sum_at weigh part works ≡ sum_at weigh part works + cond b (weigh stamp) 0
-    by_test true = let none : weigh stamp ≡ 0 = ap weigh is ∙ end in omega (arith, none)
-    by_test false = omega arith
-
-pub stamp-end_less : (at stamp : ℕ) (works : List (List ℕ)) → stamp ≡ END → HasStampLess at stamp works works
-stamp-end_less at stamp works is = stamp-end_more at stamp works is
-
 -- a sum over the stamps of a part, once those of one are others
 sum-set : (works : List (List ℕ)) (at : ℕ) (new : List ℕ) (part : ℕ) (weigh : ℕ → ℕ) → at < length works
     → sum_at weigh part (slice_set works at new) ≡ cond (at == part) (sum_by weigh new) (sum_at weigh part works)

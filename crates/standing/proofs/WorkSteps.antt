@@ -137,22 +137,6 @@ works-kept case history kept keeps =
     subst (λ (l : List (RowName × Contents)). AreWorks case.topology (run_of case.topology history).unhandled l kept.works.items)
     (sym keeps.rows) keeps.works
 
--- what an entry handles is for a part that is there, and its stamp is one of the part's
-pub taken-there : (case : CaseShape) (history : List Entry) (kept : Kept) (entry : Entry) → IsFollowed case history
-    → IsKept case history kept → IfSome (taken_by entry kept.waiting.entries) (λ d. d.to.part < length kept.works.items)
-taken-there case history kept (Claim worker interval) follows keeps = tt
-taken-there case history kept (Inject seq part line item) follows keeps = tt
-taken-there case history kept (Handle seq row id effects) follows keeps = by_found (waiting_in kept.waiting.entries id) refl
-  where
-    by_found : (o : Option Delivery) → waiting_in kept.waiting.entries id ≡ o → IfSome o (λ d. d.to.part < length kept.works.items)
-    by_found None is = tt
-    by_found (Some d) is =
-        let reads = reader-there case history id d follows (waits-kept case history kept id d keeps is).0 in
-        let many = keeps.works.many in omega (arith, reads.1, many)
-taken-there case history kept (Fire seq row timer mark effects) follows keeps = tt
-taken-there case history kept (Ack seq row id) follows keeps = tt
-taken-there case history kept (Purge seq row floor) follows keeps = tt
-
 pub taken-held : (case : CaseShape) (history : List Entry) (kept : Kept) (entry : Entry) → IsFollowed case history
     → IsKept case history kept → IfSome (taken_by entry kept.waiting.entries)
     (λ d. mark_of d ≢ END → Contains (get_or kept.works.items d.to.part []) (mark_of d))

@@ -1,6 +1,6 @@
 -- How many lines a worker's calls injected.
 use Rattle.std.proofs.Common.{◌≡◌, ◌<◌, ◌≤◌, ◌+◌, ◌∷◌, ◌∙◌, ℕ, List, [], refl, sym, ap, subst, arith, inl, inr, ⊎_elim}
-use Rattle.std.specs.Prelude.{◌⊎◌, Option, Some, None, IfOk, IfSome, IsSome, OnOk, Result, Ok, Err}
+use Rattle.std.specs.Prelude.{◌⊎◌, Option, Some, None, IfOk, IfSome, IsSome, Result, Ok, Err}
 use Rattle.std.specs.Option.{option_and_then, option_map}
 use Rattle.std.proofs.lemmas.Bool.{cases_lt, lt-ltb}
 use Rattle.list_lemmas.proofs.Lists.{none_some, some_same}
@@ -113,11 +113,6 @@ pub injected-before : {case : CaseShape} {old mid new : DeskView} {was between n
     → HasServed case a old mid was between → HasServed case b mid new between node → HasInjected case was old mid
     → HasInjected case was old new
 injected-before one two injects part less = lines-then part 16 0 16 (omega arith) one two (injects part less) (lines-none part two)
-
--- what holds anyway holds where a call did not fail
-pub ok-anyway : {T E P : Type 0} (result : Result T E) → P → OnOk result P
-ok-anyway (Ok x) is = is
-ok-anyway (Err e) is = tt
 
 -- each answer tells of a line
 pub told-some : (outcome : Outcome) → 1 ≤ lines_told outcome

@@ -11,14 +11,14 @@ use Rattle.topology.specs.Shapes.{Shape}
 use Rattle.run_history.specs.Cases.{CaseShape, intervals_of}
 use Rattle.run_history.specs.Fences.{interval_of}
 use Rattle.run_history.proofs.IntervalLaws.{interval_of-has}
-use Rattle.book.specs.Desks.{DeskView, HasLooked}
+use Rattle.book.specs.Desks.{DeskView}
 use Rattle.mailboxes.specs.declared.mailbox.Mailbox.{Mailbox}
 use Rattle.mailboxes.specs.declared.passes.MailPass.{MailPass}
 use Rattle.node.specs.Fits.{Fits}
 use Rattle.node.specs.Workers.{NodeView, leases_of}
 use Rattle.workers.specs.Passing.{ArePasses}
 use Rattle.workers.specs.Serving.{HasServed}
-use Rattle.workers.proofs.Serving.{leases-same, served-looked}
+use Rattle.workers.proofs.Serving.{leases-same}
 use Rattle.workers.proofs.Working.{worked-not}
 
 -- the interval of a row is one of the intervals
@@ -47,17 +47,6 @@ passes-set {N} {J} count i boxes passes box pass within is of are = record {
 }
 
 -- ---- what is sent
-
--- a worker fits its desk by the desk's own case
-pub fits-own : (case : CaseShape) (desk : DeskView) (node : NodeView) → Fits case desk node → Fits desk.case desk node
-fits-own case desk node fits = subst (λ (k : CaseShape). Fits k desk node) (sym fits.of_case) fits
-
--- a message was taken from what is to be sent
-pub served-sent : (case : CaseShape) (old new : DeskView) (was node : NodeView) → old.case ≡ case → Fits old.case new node
-    → node ≡ record was { outbox = node.outbox } → HasLooked old new → HasServed case 0 old new was node
-served-sent case old new was node same fits rest looked = served-looked case old new was node
-    (subst (λ (k : CaseShape). Fits k new node) same fits) (ap (λ (n : NodeView). n.number) rest) looked
-    (ap (λ (n : NodeView). leases_of n.held) rest)
 
 -- only what is to be sent changed
 pub served-rest : (case : CaseShape) (desk : DeskView) (was node : NodeView) → Fits case desk node

@@ -1,6 +1,6 @@
 -- What a worker's calls did is added up.
 use Rattle.std.proofs.Common.{◌≡◌, ◌∙◌, ◌≤◌, ◌+◌, ◌++◌, ℕ, List, refl, sym, ap, subst, arith, inl, inr, ⊎_elim}
-use Rattle.std.specs.Prelude.{Option, IfErr, OnErr, Result, Ok, Err}
+use Rattle.std.specs.Prelude.{Option, IfErr, Result, Ok, Err}
 use Rattle.mw_types.proofs.CauseLaws.{Rose-before}
 use Rattle.mw_types.specs.declared.entry.Entry.{Entry}
 use Rattle.run_history.specs.Cases.{CaseShape}
@@ -128,8 +128,3 @@ pub faults-after : {T : Type 0} {old mid : DeskView} {m : ℕ} (new : DeskView) 
     → IfErr result (IsSliceFault mid new) → IfErr result (IsSliceFault old new)
 faults-after new (Ok x) worked fault = tt
 faults-after new (Err why) worked fault = fault-after worked fault
-
--- what holds anyway holds where a call failed
-pub on_err-anyway : {T E P : Type 0} (result : Result T E) → P → OnErr result P
-on_err-anyway (Ok x) is = tt
-on_err-anyway (Err why) is = is

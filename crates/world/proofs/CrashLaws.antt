@@ -1,6 +1,5 @@
 -- A worker that crashes.
 use Rattle.std.proofs.Common.{◌≡◌, ◌∙◌, sym, ap}
-use Rattle.list_lemmas.proofs.Told.{if-there}
 use Rattle.list_lemmas.proofs.Lists.{none_some}
 use Rattle.book.specs.Books.{BookView, core_of}
 use Rattle.book.specs.Lawful.{IsLawful}
@@ -11,9 +10,7 @@ use Rattle.node.specs.declared.outcome.Outcome.TheVariants as outcomes
 use Rattle.node.proofs.FitLaws.{grown_looked, looked_not}
 use Rattle.scripts.specs.declared.step.Step.TheVariants as steps
 use Rattle.world.specs.Standing.{FitsOwn}
-use Rattle.world.specs.WorkerCalls.{ActsOn, HasCalled, HasLeases}
-use Rattle.world.proofs.ActsOnLaws.{acting}
-use Rattle.world.proofs.deeds.Crashes.{crash-acts}
+use Rattle.world.specs.WorkerCalls.{HasCalled, HasLeases}
 
 -- it has no lease
 crash-leases : (book : BookView) (was node : NodeView) → worker_at node ≡ idle → HasLeases book was node
@@ -30,9 +27,3 @@ crash-called book was node lawful number nothing fits = record {
   was_sound = sound book lawful;
   sound = sound book lawful;
 }
-
--- and it does what a scripted worker does
-pub crash-on : (book : BookView) (was node : NodeView) → IsLawful book.case (core_of book) → FitsOwn book was
-    → worker_at node ≡ idle → ActsOn (steps.Crash was.number) book was book node outcomes.Crashed
-crash-on book was node lawful fits nothing = if-there book.rows (λ told world at.
-    crash-acts book.case book world was.number was node (acting book was world told lawful fits at) nothing)

@@ -1,5 +1,5 @@
 -- Messages that come into flight, and that leave it.
-use Rattle.std.proofs.Common.{◌≡◌, ◌∙◌, ◌+◌, ◌^◌, ◌++◌, ◌∷◌, ℕ, Bool, true, false, List, [], length, refl, sym, ap, subst}
+use Rattle.std.proofs.Common.{◌≡◌, ◌∙◌, ◌+◌, ◌^◌, ◌++◌, ◌∷◌, ℕ, Bool, true, List, [], length, refl, sym, ap, subst}
 use Rattle.std.specs.Prelude.{Option, None, Some, All, if◌then◌else◌, nat_le, slice_get, slice_set, unwrap_or}
 use Rattle.std.specs.Option.{option_map, option_map_or}
 use Rattle.std.proofs.lemmas.List.{append-nil, length-map, map-append, map-set}
@@ -112,21 +112,6 @@ copied-if : World → Outgoing → Bool → Deed
 copied-if world copied b = if b
     then record (stays world 0 (outcomes.Copied (length world.flight))) { flight = sent_after world.flight (copied ∷ []) }
     else nothing world 0
-
--- no message is copied where there is no number for it
-pub repeat-full : (number : ℕ) (flight : List (Option (Message NoNote))) (message : Message NoNote)
-    → unwrap_or (slice_get flight number) None ≡ Some message → nat_le (length flight + 1) (2 ^ 32) ≡ false
-    → FliesOn (steps.Repeat number) (flight_of flight) (flight_of flight) outcomes.Nothing
-unfolding copied-if
-repeat-full number flight message at full case world same =
-    let there : in_flight world.flight number ≡ Some (outgoing_of message) =
-    ap (λ f. in_flight f number) same ∙ flight-at flight number ∙ ap noteless at in
-    let none : has_numbers world.flight 1 ≡ false =
-    ap (λ n. nat_le (n + 1) (2 ^ 32)) (ap length same ∙ length-map flight noteless) ∙ full in
-    ap (λ (f : List (Option Outgoing)). (outcomes.Nothing, record world { flight = f })) (sym same)
-    ∙ flies-done case world outcomes.Nothing world.flight
-    ∙ ap (λ b. done case.topology world (copied-if world (outgoing_of message) b)) (sym none)
-    ∙ ap (λ o. done case.topology world (option_map_or (copy_message world) o (nothing world 0))) (sym there)
 
 -- a message is copied
 pub repeat-more : (number : ℕ) (flight : List (Option (Message NoNote))) (message : Message NoNote)

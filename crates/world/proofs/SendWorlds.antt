@@ -1,12 +1,11 @@
 -- A world in which a worker has sent all that it had to send.
-use Rattle.std.proofs.Common.{◌≡◌, ◌∙◌, ℕ, List, refl, sym, ap, subst}
+use Rattle.std.proofs.Common.{◌≡◌, ◌∙◌, ℕ, List, refl, sym, ap}
 use Rattle.std.specs.Prelude.{Option, Some, slice_get}
 use Rattle.list_lemmas.proofs.Told.{if-there}
 use Rattle.book.specs.Books.{BookView}
 use Rattle.book.specs.declared.own_desk.NoNote.{NoNote}
 use Rattle.node.specs.Workers.{NodeView, worker_at}
 use Rattle.node.specs.declared.message.Message.{Message}
-use Rattle.node.specs.declared.outcome.NodeFault.{NodeFault}
 use Rattle.node.specs.declared.outcome.NodeFault.TheVariants as faults
 use Rattle.node.specs.declared.outcome.Outcome.{Outcome}
 use Rattle.scripts.specs.Acts.{act}
@@ -14,10 +13,8 @@ use Rattle.scripts.specs.Worlds.{World}
 use Rattle.scripts.specs.declared.step.Step.TheVariants as steps
 use Rattle.world.specs.Standing.{IsWorld}
 use Rattle.world.specs.Stepping.{HasActed}
-use Rattle.drains.specs.Turns.{HasFailed}
 use Rattle.world.specs.WorkerCalls.{SendsOn, world_with}
 use Rattle.world.specs.WorldStates.{WorldState, flight_of, world_of}
-use Rattle.drains.proofs.TurnLaws.{failed-not}
 use Rattle.world.proofs.WorldSteps.{at-world, changed, rested-at, world-changed}
 
 -- it did as in the script
@@ -43,7 +40,3 @@ unsent-at state book number was node after at same kept unchanged =
       kept = ap worker_at kept;
     })
     ∙ ap (λ (f : List (Option (Message NoNote))). let w : World = record (world_of state) { flight = flight_of f } in w) unchanged
-
--- a lack of memory, where the book is as it was
-pub failed-same : (old new : BookView) (why : NodeFault) → new ≡ old → why ≡ faults.NoMemory → HasFailed old new why
-failed-same old new why same is = subst (λ (b : BookView). HasFailed old b why) (sym same) (failed-not old why is)

@@ -23,15 +23,6 @@ use Rattle.world.specs.WorldStates.{WorldState, world_of}
 use Rattle.drains.specs.DrainTurns.{DrainView, HasDrained, IsUnderWay}
 use Rattle.drains.specs.Turns.{HasFailed}
 
--- no worker yet
-pub new-none : AreNew 0 []
-new-none = record {
-  all = refl;
-  numbered = λ n x found. absurd cc;
-  have_nothing = refl;
-  fit = λ case desk same. All-from_recursion (Fits case desk) [] tt;
-}
-
 -- one worker more
 pub new-more : (count : ℕ) (nodes : List NodeView) (node : NodeView) → AreNew count nodes → node.number ≡ count
     → worker_at node ≡ idle → ((case : CaseShape) (desk : DeskView) → desk.case ≡ case → Fits case desk node)

@@ -1,5 +1,5 @@
 -- When a worker leaves a message in flight, and what it does with one that it takes.
-use Rattle.std.proofs.Common.{◌≡◌, ◌∙◌, ◌↔◌, ℕ, Bool, true, false, refl, sym, ap, subst}
+use Rattle.std.proofs.Common.{◌≡◌, ◌∙◌, ℕ, Bool, true, false, refl, sym, ap, subst}
 use Rattle.std.specs.Prelude.{Option, None, Some, IsSome, IfSome, if◌then◌else◌}
 use Rattle.std.specs.Option.{is_some, option_and_then, option_map, option_map_or}
 use Rattle.list_lemmas.proofs.Told.{if-there}
@@ -18,7 +18,7 @@ use Rattle.holdings.specs.Holding.{HeldView, held_at, held_on}
 use Rattle.node.specs.Answers.{AnswersAckOf, taken_from}
 use Rattle.node.specs.Fits.{Fits, IsWork}
 use Rattle.node.specs.Received.{IsAck}
-use Rattle.node.specs.Workers.{IsHandle, NodeView, WorkView, Worker, sending_in, sending_of, worker_at}
+use Rattle.node.specs.Workers.{IsHandle, NodeView, WorkView, Worker, sending_of, worker_at}
 use Rattle.node.specs.declared.outcome.Outcome.{Outcome}
 use Rattle.node.specs.declared.outcome.Outcome.TheVariants as outcomes
 use Rattle.node.specs.declared.outgoing.Outgoing.{Outgoing}
@@ -46,29 +46,6 @@ ready-of case desk node fits = by_work node.prepared fits.work
     by_work : (o : Option WorkView) → IfSome o (IsWork case desk node.held) → IfSome o (λ (work : WorkView). IsHandle work.proposal)
     by_work None is = tt
     by_work (Some work) is = by_proposal work.sender work.proposal is
-
--- and is one that waits to be written
-pub ready-sends : (node : NodeView) → IsReady node → is_some (sending_of node) ≡ is_some node.prepared
-ready-sends node ready = by_work node.prepared ready
-  where
-    by_proposal : (sender : RowName) (p : Proposal) → IsHandle p → is_some (sending_in sender p) ≡ true
-    by_proposal sender (proposals.Inject line) is = absurd is
-    by_proposal sender (proposals.Handle delivery effects) is = refl
-    by_proposal sender (proposals.Fire timer mark effects) is = absurd is
-
-    by_work : (o : Option WorkView) → IfSome o (λ (work : WorkView). IsHandle work.proposal)
-        → is_some (option_and_then (λ (work : WorkView). sending_in work.sender work.proposal) o) ≡ is_some o
-    by_work None is = refl
-    by_work (Some work) is = by_proposal work.sender work.proposal is
-
--- a test that is true exactly where another is has its value
-pub same-test : (one other : Bool) → (one ≡ true) ↔ (other ≡ true) → one ≡ other
-same-test true other both = sym (both.0 refl)
-same-test false true both = absurd (not_true (both.1 refl))
-  where
-    not_true : false ≡ true → ⊥
-    not_true e = cc
-same-test false false both = refl
 
 -- ---- the leases
 

@@ -14,7 +14,7 @@ use Rattle.book.specs.Books.{BookView}
 use Rattle.book.specs.Desks.{HasLooked, IsSound, KeepsMarks}
 use Rattle.book.specs.OwnDesks.{own_view}
 use Rattle.holdings.specs.Holding.{HeldView, held_on, row_held}
-use Rattle.node.specs.Answers.{AnswersAck, AnswersAckOf, AnswersAsked, AnswersClaim, AnswersReport, AnswersReportOf, AnswersSome, AnswersWrite, FailsReport, HasGrown, HasKept, received, taken_from}
+use Rattle.node.specs.Answers.{AnswersAck, AnswersAckOf, AnswersAsked, AnswersClaim, AnswersReport, AnswersReportOf, AnswersSome, AnswersWrite, HasGrown, HasKept, received, taken_from}
 use Rattle.node.specs.Asking.{Request, settling}
 use Rattle.node.specs.Fits.{Fits}
 use Rattle.node.specs.Workers.{NodeView, Sending, Worker, leases_of, with_lease, with_outgoing, with_written, worker_at}
@@ -27,7 +27,7 @@ use Rattle.node.specs.declared.outgoing.Outgoing.TheVariants as outgoing
 use Rattle.scripts.proofs.Leases.{lost-had}
 use Rattle.drains.specs.Turns.{HasFailed}
 use Rattle.world.specs.WorkerCalls.{HasCalled, HasLeases, HasRested}
-use Rattle.drains.proofs.TurnLaws.{failed-memory, failed-refused, stepped-looked}
+use Rattle.drains.proofs.TurnLaws.{failed-memory, stepped-looked}
 
 -- ---- what is said of a result
 
@@ -35,11 +35,6 @@ use Rattle.drains.proofs.TurnLaws.{failed-memory, failed-refused, stepped-looked
 pub by-result : {T E : Type 0} {P : T → Type 0} {Q R : Type 0} (r : Result T E) → ((x : T) → P x → R) → (Q → R) → IfOk r P → OnErr r Q → R
 by-result (Ok x) f g is not = f x is
 by-result (Err e) f g is not = g not
-
--- of two facts that a refusal leaves
-pub err-both : {T E : Type 0} {P Q S : Type 0} (r : Result T E) → (P → Q → S) → OnErr r P → OnErr r Q → OnErr r S
-err-both (Ok x) f one two = tt
-err-both (Err e) f one two = f one two
 
 -- of a refusal and what it leaves
 pub err-with : {T E : Type 0} {P : E → Type 0} {Q : Type 0} {S : E → Type 0} (r : Result T E) → ((e : E) → P e → Q → S e) → IfErr r P → OnErr r Q → IfErr r S
@@ -221,11 +216,6 @@ leases-taken shape new was node taken outcome is = leases-kept new was node (ap 
 
 -- ---- a call
 
--- the case of a book, where a call said it of another name of it
-pub fits-same : (case : CaseShape) (old new : BookView) (node : NodeView) → case ≡ old.case
-    → HasLooked (own_view old) (own_view new) → Fits case (own_view new) node → Fits new.case (own_view new) node
-fits-same case old new node same looked fits = subst (λ (k : CaseShape). Fits k (own_view new) node) (same ∙ sym looked.case) fits
-
 -- a worker has called its desk
 pub called-by : (case : CaseShape) (old new : BookView) (was node : NodeView) → case ≡ old.case → IsSound (own_view old)
     → IsSound (own_view new) → HasGrown was.held (own_view old) (own_view new) → Fits case (own_view new) node
@@ -249,12 +239,6 @@ rested-by old new was node marks kept looked = record {
 }
 
 -- ---- why a call fails
-
--- a fault of a report
-pub failed-report : (old new : BookView) (held : Option HeldView) (why : NodeFault) → HasLooked (own_view old) (own_view new)
-    → FailsReport (own_view old) (own_view new) held why → HasFailed old new why
-failed-report old new None why looked fails = subst (HasFailed old new) (sym fails) (failed-memory old new looked)
-failed-report old new (Some held) why looked fails = failed-refused old new held.lease why looked fails
 
 -- a lack of memory
 pub failed-only-memory : (old new : BookView) (why : NodeFault) → HasLooked (own_view old) (own_view new)

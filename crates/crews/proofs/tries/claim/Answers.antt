@@ -1,6 +1,6 @@
 use Rattle.std.proofs.Common.{◌∙◌, arith, refl, subst, rules}
 use Rattle.node.proofs.FitLaws.{looked_not, looked_twice}
-use Rattle.workers.proofs.Serving.{on_err-anyway}
+use Rattle.list_lemmas.proofs.Told.{on_err-anyway}
 use Rattle.crews.specs.Crews.{HasClaimedOne}
 use Rattle.crews.proofs.Going.{gone-less, gone-looked}
 use Rattle.crews.proofs.Trying.{cause-claim, claim-busy, claim-done, claim-kept, claim-leased, own-looked}

@@ -3,7 +3,7 @@ use Rattle.mw_types.specs.declared.entry.Entry.{Entry}
 use Rattle.run_history.specs.Cases.{CaseShape}
 use Rattle.book.specs.Books.{BookView}
 use Rattle.live_outlet.specs.Outlets.{IsPumpedFrom, StopsAt, WritesTo}
-use Rattle.live_outlet.proofs.Pumping.{on_err-anyway}
+use Rattle.list_lemmas.proofs.Told.{on_err-anyway}
 use Rattle.millwheel_cli.proofs.Living.{pumped-cut, pumped-on}
 use Rattle.millwheel_cli.proofs.live.pump.Goals as goal
 

@@ -1,6 +1,7 @@
 use Rattle.std.proofs.Common.{◌∙◌, ap, arith}
 use Rattle.book.specs.Desks.{Home}
-use Rattle.workers.proofs.LineLaws.{injected-before, ok-anyway}
+use Rattle.list_lemmas.proofs.Told.{on_ok-anyway}
+use Rattle.workers.proofs.LineLaws.{injected-before}
 use Rattle.workers.proofs.Serving.{served-less, served-then}
 use Rattle.workers.proofs.turns.go_on.Goals as goal
 
@@ -32,4 +33,4 @@ pub returns-clause-injected : goal.returns-clause-injected
 returns-clause-injected g c =
     let tidied = served-then 61 0 61 (omega arith) c.tidy.ensures.served c.send_out.ensures.served in
     let rest = served-then 61 61 122 (omega arith) tidied c.report_all.ensures.served in
-    ok-anyway c.report_all.result (injected-before c.work_on.ensures.served rest c.in_ok-work_on.ensures.injected)
+    on_ok-anyway c.report_all.result (injected-before c.work_on.ensures.served rest c.in_ok-work_on.ensures.injected)

@@ -1,4 +1,5 @@
-use Rattle.live_outlet.proofs.Pumping.{on_err-anyway, puts-none}
+use Rattle.list_lemmas.proofs.Told.{on_err-anyway}
+use Rattle.live_outlet.proofs.Pumping.{puts-none}
 use Rattle.live_outlet.proofs.outlet.Outlet.put.Goals as goal
 
 pub returns-in_err-follow-clause-part : goal.returns-in_err-follow-clause-part

@@ -2,11 +2,12 @@ use Rattle.std.proofs.Common.{◌∷◌, ◌++◌, [], ap, map, subst, sym, ◌�
 use Rattle.mw_types.specs.declared.entry.Entry.{Entry}
 use Rattle.std.specs.Prelude.{List}
 use Rattle.run_history.specs.Packing.{ArePacked, unpacked}
-use Rattle.run_history.proofs.Packings.{anyway, map_kept, packed_more, put_back, unpacked_more}
+use Rattle.list_lemmas.proofs.Told.{on_err-anyway}
+use Rattle.run_history.proofs.Packings.{map_kept, packed_more, put_back, unpacked_more}
 use Rattle.run_history.proofs.history.History.push.Goals as goal
 
 pub returns-in_err-packed-clause-unchanged : goal.returns-in_err-packed-clause-unchanged
-returns-in_err-packed-clause-unchanged c = anyway c.from_residual.result
+returns-in_err-packed-clause-unchanged c = on_err-anyway c.from_residual.result
     (map_kept c.self.inside.details c.pack.new.self c.self.inside.entries c.pack.ensures.kept c.self.invariant.each
     ∙ c.self.view_is)
 

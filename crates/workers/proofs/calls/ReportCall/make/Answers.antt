@@ -3,7 +3,7 @@ use Rattle.book.specs.Desks.{DeskView}
 use Rattle.workers.specs.Slices.{IsSliceFault}
 use Rattle.workers.proofs.CallLaws.{report-answered}
 use Rattle.workers.proofs.FaultLaws.{fault-memory}
-use Rattle.workers.proofs.Serving.{on_err-anyway}
+use Rattle.list_lemmas.proofs.Told.{on_err-anyway}
 use Rattle.workers.proofs.calls.ReportCall.make.Goals as goal
 
 -- the call appends what it answers
