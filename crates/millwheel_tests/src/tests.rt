@@ -1,4 +1,4 @@
-//! The program's own call, over files, text and rows in memory.
+//! The program's own call, over files, text and rows in memory, and over kept rows.
 ghost use Rattle.std.specs.Prelude.{◌≡◌, Ok};
 
 mod audits;
@@ -8,6 +8,7 @@ mod collections;
 mod events;
 mod faults;
 mod histories;
+mod kept_rows;
 mod lives;
 mod loads;
 mod looks;
@@ -23,7 +24,7 @@ mod topologies;
 
 use millwheel_cli::Status;
 use mw_ports::{FileList, NamedFile};
-use mw_types::{Bytes, Name, Seq};
+use mw_types::{Bytes, Key, Name, Seq};
 use std::alloc::Global;
 use std::fmt::Display;
 use std::process::Abort;
@@ -48,6 +49,15 @@ fn made<T: Drop, E: Drop>(rt: &impl Abort, given: Result<T, E>) -> T
     match given {
         Ok(it) => it,
         Err(_) => rt.panic("it was not made"),
+    }
+}
+
+// The key of a text, which may be the empty one.
+fn key(rt: &impl Abort, alloc: Global, text: &str) -> Key {
+    if text.is_empty() {
+        Key::none(alloc)
+    } else {
+        made(rt, Key::of(alloc, text))
     }
 }
 

@@ -1,10 +1,10 @@
 //! Keepers that show a row which the run did not write.
 use super::calls::{ample, called, shelf};
 use super::files::FIRST;
-use crate::tests::{made, must_hold};
+use crate::tests::{key, made, must_hold};
 use hex::decode;
 use millwheel_cli::Status;
-use mw_types::{Bytes, Key, NoMemory, RowName};
+use mw_types::{Bytes, NoMemory, RowName};
 use row_keeper::{KeptRow, KeptRowList, LyingKeeper};
 use std::alloc::Global;
 use std::process::Abort;
@@ -119,15 +119,6 @@ fn digits(rt: &impl Abort, alloc: Global, fields: &str) -> String {
 // The bytes of digits.
 fn bytes(rt: &impl Abort, alloc: Global, digits: String) -> Bytes {
     Bytes::from_vec(made(rt, decode(alloc, digits.as_str())))
-}
-
-// The key of a text, which may be the empty one.
-fn key(rt: &impl Abort, alloc: Global, text: &str) -> Key {
-    if text.is_empty() {
-        Key::none(alloc)
-    } else {
-        made(rt, Key::of(alloc, text))
-    }
 }
 
 // A row as a keeper has it.

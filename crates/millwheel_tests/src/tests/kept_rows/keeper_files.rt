@@ -1,8 +1,9 @@
 //! Keepers over real files, and files that are none.
 use super::asking::does;
 use super::deeds::Deed;
+use super::folder;
 use super::lending::{closed, dropped, refusal, second_refusal};
-use super::{folder, made, must};
+use crate::tests::{made, must_hold};
 use row_keeper::KeeperFault;
 use std::fs;
 
@@ -10,7 +11,7 @@ use std::fs;
 fn rows_are_kept_and_read_back(rt: HostRuntime) {
     folder::empty(&rt, &rt, "kept");
     closed(&rt, &rt, "kept/k.db", Deed::PutsSeven);
-    must(
+    must_hold(
         &rt,
         dropped(&rt, &rt, "kept/k.db", Deed::HasSeven),
         "seven rows",
@@ -26,8 +27,8 @@ static LEFT: [(&str, u32, u8); 2] = [("dropped/few", 249, 0), ("dropped/more", 2
 fn a_keeper_that_is_not_closed_leaves_its_last_commit(rt: HostRuntime) {
     folder::empty(&rt, &rt, "dropped");
     for (name, times, byte) in &LEFT {
-        must(&rt, dropped(&rt, &rt, name, Deed::PutsOne(*times)), *name);
-        must(&rt, dropped(&rt, &rt, name, Deed::HasFirst(*byte)), *name);
+        must_hold(&rt, dropped(&rt, &rt, name, Deed::PutsOne(*times)), *name);
+        must_hold(&rt, dropped(&rt, &rt, name, Deed::HasFirst(*byte)), *name);
     }
     folder::remove(&rt, &rt, "dropped");
 }
@@ -56,7 +57,7 @@ fn a_file_that_is_no_database_of_rows_is_refused(rt: HostRuntime) {
     does(&rt, &rt, "none/columns", columns);
     does(&rt, &rt, "none/keyless", keyless);
     for name in &OTHERS {
-        must(&rt, refusal(&rt, name) == Some(KeeperFault::Failed), *name);
+        must_hold(&rt, refusal(&rt, name) == Some(KeeperFault::Failed), *name);
     }
     folder::remove(&rt, &rt, "none");
 }
@@ -65,12 +66,12 @@ fn a_file_that_is_no_database_of_rows_is_refused(rt: HostRuntime) {
 fn a_file_is_one_keepers_at_a_time(rt: HostRuntime) {
     folder::empty(&rt, &rt, "held");
     let second = second_refusal(&rt, &rt, "held/k.db");
-    must(
+    must_hold(
         &rt,
         second == Some(KeeperFault::Failed),
         "while there is one",
     );
-    must(&rt, refusal(&rt, "held/k.db").is_none(), "afterwards");
+    must_hold(&rt, refusal(&rt, "held/k.db").is_none(), "afterwards");
     folder::remove(&rt, &rt, "held");
 }
 
@@ -94,7 +95,7 @@ fn rows_that_no_keeper_put_are_a_fault(rt: HostRuntime) {
     folder::empty(&rt, &rt, "strange");
     for (name, statements, deed) in &STRANGE {
         does(&rt, &rt, name, statements);
-        must(&rt, dropped(&rt, &rt, name, *deed), *name);
+        must_hold(&rt, dropped(&rt, &rt, name, *deed), *name);
     }
     folder::remove(&rt, &rt, "strange");
 }

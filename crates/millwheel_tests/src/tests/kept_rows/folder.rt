@@ -1,5 +1,5 @@
 //! A folder for the files of one test.
-use super::made;
+use crate::tests::made;
 use std::fs;
 use std::process::Abort;
 

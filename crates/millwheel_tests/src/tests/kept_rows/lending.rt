@@ -1,6 +1,7 @@
 //! A keeper of a file, opened for one deed and let go.
 use super::deeds::{Deed, is_done};
-use super::{made, must, refusal_of};
+use super::refusal_of;
+use crate::tests::{made, must_hold};
 use row_keeper::{Keeper, KeeperFault};
 use sqlite_keeper::SqliteKeeper;
 use std::alloc::Global;
@@ -15,7 +16,7 @@ fn done_once<K: Keeper>(rt: &impl Abort, alloc: Global, keeper: K, deed: Deed) -
 // The same with a keeper that is given back. The test ends where the deed is not done.
 fn used<K: Keeper>(rt: &impl Abort, alloc: Global, keeper: K, deed: Deed) -> K {
     let mut keeper = keeper;
-    must(
+    must_hold(
         rt,
         is_done(rt, alloc, &mut keeper, deed),
         "the deed is done",

@@ -1,6 +1,6 @@
 //! What the database itself answers over a file. One function has a connection, and no other file, since each
 //! function that calls one carries what its clauses tell.
-use super::made;
+use crate::tests::made;
 use sqlite::{Connection, Row};
 use std::process::Abort;
 

@@ -1,5 +1,6 @@
 //! What is done with a keeper, whatever keeper it is.
-use super::made;
+use super::refusal_of;
+use crate::tests::{key, made};
 use key_intervals::Bounds;
 use mw_types::{Key, RowName};
 use row_keeper::{Keeper, KeeperFault, KeptRow, KeptRowList};
@@ -46,20 +47,15 @@ pub(super) fn is_done(
             true
         }
         Deed::HasFirst(byte) => {
-            first(alloc, keeper) == Ok(byte) && fault_of(scanned(rt, alloc, keeper)).is_none()
+            first(alloc, keeper) == Ok(byte) && refusal_of(scanned(rt, alloc, keeper)).is_none()
         }
         Deed::HasOne(bytes) => has_one(alloc, keeper, bytes),
         Deed::FailsTwice => {
-            let fault = fault_of(scanned(rt, alloc, keeper));
+            let fault = refusal_of(scanned(rt, alloc, keeper));
             fault == Some(KeeperFault::Failed) && first_fails(alloc, keeper)
         }
         Deed::Fails => first_fails(alloc, keeper),
     }
-}
-
-// The key with this text.
-fn key(rt: &impl Abort, alloc: Global, text: &str) -> Key {
-    made(rt, Key::of(alloc, text))
 }
 
 // Puts a row of part 1 with one byte.
@@ -124,11 +120,6 @@ fn scanned(
     let found = keeper.scan(alloc, &bounds);
     drop(bounds);
     found
-}
-
-// Why a scan failed, if it did.
-fn fault_of(found: Result<KeptRowList, KeeperFault>) -> Option<KeeperFault> {
-    found.err()
 }
 
 // Whether a scan found rows of these bytes, of which each has one.
