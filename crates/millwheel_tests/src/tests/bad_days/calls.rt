@@ -1,5 +1,5 @@
 //! The program's call over files in memory.
-use crate::tests::calls::Files;
+use crate::tests::calls::{Files, sink as ample};
 use crate::tests::topologies::CUTS;
 use crate::tests::{bytes_of, is_said, made, push_file, words};
 use millwheel_cli::{Done, load_lines, millwheel, millwheel_alone};
@@ -33,11 +33,6 @@ pub(super) fn sink(rt: &impl Abort, alloc: Global, most: usize, failing: &[u64])
         numbers(rt, alloc, failing),
         CallList::new(alloc),
     )
-}
-
-/// An ample sink.
-pub(super) fn ample(alloc: Global) -> MemSink {
-    MemSink::of(alloc, 65536, CallList::new(alloc), CallList::new(alloc))
 }
 
 /// A keeper without rows, whose calls of these numbers fail.

@@ -1,7 +1,8 @@
 //! Each call of the keeper, of the files and of the output that fails in turn, in each mode.
-use super::calls::{ample, called, keeper, shelf, sink};
+use super::calls::{called, keeper, shelf, sink};
 use super::files::FIRST;
 use super::kept::are_kept;
+use crate::tests::calls::sink as ample;
 use crate::tests::replays::TEXT;
 use crate::tests::{is_said, made, must_hold};
 use millwheel_cli::{Done, Status};

@@ -1,6 +1,7 @@
 //! Keepers that show a row which the run did not write.
-use super::calls::{ample, called, shelf};
+use super::calls::{called, shelf};
 use super::files::FIRST;
+use crate::tests::calls::sink as ample;
 use crate::tests::{key, made, must_hold};
 use hex::decode;
 use millwheel_cli::Status;

@@ -1,6 +1,7 @@
 //! Rounds of two workers over a keeper whose call of each number fails, and the rows that it holds then.
-use super::calls::{ample, keeper, rounds};
+use super::calls::{keeper, rounds};
 use super::each_call::has_its_rows;
+use crate::tests::calls::sink as ample;
 use crate::tests::must_hold;
 use millwheel_cli::{Done, Status};
 use row_keeper::MemKeeper;
