@@ -1,8 +1,0 @@
-use Rattle.std.proofs.Common.{subst, sym, arith}
-use Rattle.mw_types.specs.Bounds.{AreWindows}
-use Rattle.computations.proofs.Fresh.{AreWindows-none}
-use Rattle.book_tests.proofs.tests.example.none_open.Goals as goal
-
--- no window is open
-pub returns-clause-within : goal.returns-clause-within
-returns-clause-within c = (omega arith, subst AreWindows (sym c.new.ensures.empty) AreWindows-none)

@@ -1,5 +1,0 @@
-use Rattle.book_tests.proofs.tests.many_seats.+dealt.Given as goal
-
--- so many numbers are left to deal
-abbrev pub decreases-dealt : goal.decreases-dealt
-decreases-dealt g l = l.left

@@ -1,2 +1,0 @@
-pub mod TestBooks
-pub mod TestSeats

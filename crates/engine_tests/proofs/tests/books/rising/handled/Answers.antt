@@ -1,0 +1,10 @@
+use Rattle.std.proofs.Common.{refl}
+use Rattle.engine_tests.proofs.tests.books.rising.handled.Goals as goal
+
+-- the injector's interval was claimed
+pub report-mark-requires-clause-claimed : goal.report-mark-requires-clause-claimed
+report-mark-requires-clause-claimed g c = refl
+
+-- what it sent is its own work
+pub report-mark-requires-clause-own : goal.report-mark-requires-clause-own
+report-mark-requires-clause-own g c = refl

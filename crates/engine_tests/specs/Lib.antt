@@ -1,0 +1,3 @@
+pub mod TestBooks
+pub mod TestKinds
+pub mod TestSeats

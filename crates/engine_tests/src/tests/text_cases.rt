@@ -1,0 +1,64 @@
+//! Cases that are read from texts: a topology of one injector, and its event file.
+ghost use Rattle.std.specs.Prelude.{◌≡◌, length};
+ghost use Rattle.topology.specs.Shapes.{injectors_of};
+
+use crate::tests::made;
+use injector::{Items, ItemsList, read_lines};
+use run_history::Case;
+use std::alloc::Global;
+use std::process::Abort;
+use topology::{Topology, read};
+
+/// One count over windows of 60.
+pub const COUNT: &str =
+    r#"{"injectors":[{"name":"clicks","stream":"raw"}],"computations":[{"name":"per_minute","kind":"count","size":60,"reads":[{"stream":"raw","by":"key"}],"stream":"windows"}]}
+"#;
+
+/// Two records in the window that ends at 60, and one in the next.
+pub const RECORDS: &str = r#"{"key":"a","ts":10}
+{"key":"a","ts":59}
+{"key":"a","ts":60}
+"#;
+
+/// A record in the window that ends at 60, the end of that window, and a record in the next.
+pub const TWO: &str = r#"{"key":"a","ts":10}
+{"watermark":60}
+{"key":"a","ts":70}
+"#;
+
+// The topology of a text, which has one injector.
+fn topology_of(rt: &impl Abort, alloc: Global, text: &str) -> Topology
+    ensures { injectors_of result ≡ 1 }
+{
+    let topology = made(rt, read(alloc, text.as_bytes()));
+    if topology.injectors() != 1 {
+        rt.panic("the topology has other injectors");
+    }
+    topology
+}
+
+/// The lines of an event file.
+pub(crate) fn lines(rt: &impl Abort, alloc: Global, events: &str) -> Items {
+    let bytes = events.as_bytes();
+    if bytes.len() > 1 << 20 {
+        rt.panic("the events are too long");
+    }
+    made(rt, read_lines(alloc, bytes, 1 << 18))
+}
+
+/// The case of a topology of one injector over this event file.
+pub(crate) fn case(rt: &impl Abort, alloc: Global, topology: &str, events: &str) -> Case {
+    let items = items(rt, alloc, events);
+    let topology = topology_of(rt, alloc, topology);
+    made(rt, Case::of(alloc, topology, items))
+}
+
+// The lines of an event file, as those of the one injector.
+fn items(rt: &impl Abort, alloc: Global, events: &str) -> ItemsList
+    ensures { length result ≡ 1 }
+{
+    let lines = lines(rt, alloc, events);
+    let mut items = ItemsList::new(alloc);
+    made(rt, items.push(lines));
+    items
+}

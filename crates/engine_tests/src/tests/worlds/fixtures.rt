@@ -1,0 +1,61 @@
+//! Topologies, keepers and worlds of the tests.
+ghost use Rattle.std.specs.Prelude.{◌≤◌, ◌^◌};
+ghost use Rattle.node.specs.Works.{IsWorkOf};
+ghost use Rattle.computations.specs.Parts.{HasState, part_record, part_timer};
+
+use crate::tests::made;
+use book::Book;
+use computations::Kinds;
+use mw_types::{Bytes, Key, NoMemory, RowName};
+use row_keeper::{BlindKeeper, Keeper, KeptRow};
+use run_history::Case;
+use std::alloc::Global;
+use std::process::Abort;
+use world::World;
+
+/// A count over windows of 3600, of what a count over windows of 60 makes.
+pub const CHAIN: &str =
+    r#"{"injectors":[{"name":"clicks","stream":"raw"}],"computations":[{"name":"per_minute","kind":"count","size":60,"reads":[{"stream":"raw","by":"key"}],"stream":"windows"},{"name":"per_hour","kind":"count","size":3600,"reads":[{"stream":"windows","by":"key"}],"stream":"hours"}]}
+"#;
+
+/// A count over windows of 60, of what is passed on.
+pub const PASSED: &str =
+    r#"{"injectors":[{"name":"clicks","stream":"raw"}],"computations":[{"name":"copy","kind":"pass","reads":[{"stream":"raw","by":"key"}],"stream":"copies"},{"name":"per_minute","kind":"count","size":60,"reads":[{"stream":"copies","by":"key"}],"stream":"windows"}]}
+"#;
+
+/// How many entries a history may have at most.
+pub const MOST: u64 = 1 << 32;
+
+// A keeper that does not tell its rows, and shows these bytes for the key `z` of the count.
+pub(crate) fn blind_keeper(rt: &impl Abort, alloc: Global, shown: &[u8]) -> BlindKeeper {
+    let key = made(rt, Key::of(alloc, "z"));
+    let bytes = Bytes::from_vec(made(rt, shown.to_vec(alloc)));
+    let name = RowName { part: 1, key };
+    BlindKeeper::new(KeptRow { name, bytes })
+}
+
+// The computations of a case.
+fn work(rt: &impl Abort, alloc: Global, case: &Case) -> Kinds
+    ensures { IsWorkOf case.now.topology
+        (HasState result) (part_record result) (part_timer result) }
+{
+    match Kinds::of(alloc, &case.topology) {
+        Ok(kinds) => kinds,
+        Err(NoMemory) => rt.panic("no computations were made"),
+    }
+}
+
+// A world over a new book of a case, which takes so many entries.
+pub(crate) fn world<'a, K: Keeper>(
+    rt: &impl Abort,
+    alloc: Global,
+    case: &'a Case,
+    keeper: K,
+    limit: u64,
+) -> World<'a, K, Kinds>
+    requires { limit ≤ 2 ^ 32 }
+{
+    let work = work(rt, alloc, case);
+    let book = made(rt, Book::start(alloc, case, keeper, limit));
+    made(rt, World::start(alloc, book, work))
+}

@@ -1,0 +1,126 @@
+//! Whole scripts, whose answers are dropped.
+use super::fixtures::{MOST, world};
+use super::tables::schedule;
+use crate::tests::keepers::in_memory;
+use crate::tests::must;
+use crate::tests::text_cases::{COUNT, RECORDS, case};
+use computations::Kinds;
+use node::NodeFault;
+use row_keeper::Keeper;
+use run_history::{Case, EntryRef};
+use std::alloc::Global;
+use std::process::Abort;
+use world::{World, run_script};
+
+// A worker has prepared a record and crashes before it writes.
+const UNWRITTEN: &str = "# one worker
+claim 0 0
+claim 0 1
+
+inject 0 0
+send 0
+take 0 0
+crash 0
+";
+
+// Does the steps of a text. No other function runs a script.
+pub(crate) fn runs<K: Keeper>(
+    rt: &impl Abort,
+    alloc: Global,
+    world: &mut World<'_, K, Kinds>,
+    text: &str,
+) -> Result<(), NodeFault> {
+    let case = world.book().case();
+    let schedule = schedule(rt, alloc, case, text);
+    let ran = run_script(alloc, world, schedule.steps());
+    drop(schedule);
+    ran
+}
+
+// Does the steps of a text, and says whether they end so with so many entries.
+fn leaves<K: Keeper>(
+    rt: &impl Abort,
+    alloc: Global,
+    world: &mut World<'_, K, Kinds>,
+    text: &str,
+    is_ok: bool,
+    entries: usize,
+) -> bool {
+    let ran = runs(rt, alloc, world, text);
+    let ends_so = ran.is_ok() == is_ok;
+    drop(ran);
+    ends_so && world.book().history().len() == entries
+}
+
+// Drains, and says whether that goes well and leaves so many entries.
+fn drains<K: Keeper>(alloc: Global, world: &mut World<'_, K, Kinds>, entries: usize) -> bool {
+    is_drained(alloc, world) && world.book().history().len() == entries
+}
+
+// Drains, and says whether that goes well.
+pub(crate) fn is_drained<K: Keeper>(alloc: Global, world: &mut World<'_, K, Kinds>) -> bool {
+    let drained = world.drain(alloc);
+    let is_ok = drained.is_ok();
+    drop(drained);
+    is_ok
+}
+
+// Whether an entry is that the record of this number was handled.
+fn handles(entry: Option<EntryRef<'_>>, commit: u64) -> bool {
+    match entry {
+        Some(EntryRef::Handle { id, .. }) => id.commit == commit,
+        _ => false,
+    }
+}
+
+// The drain claims as entries 3 and 4, and handles the record as entry 5.
+fn is_handled_by_the_drain(rt: &impl Abort, alloc: Global) -> bool {
+    let case = case(rt, alloc, COUNT, RECORDS);
+    let is_handled = is_handled_of(rt, alloc, &case);
+    drop(case);
+    is_handled
+}
+
+// The same of a case.
+fn is_handled_of(rt: &impl Abort, alloc: Global, case: &Case) -> bool {
+    let keeper = in_memory(rt, alloc, &[]);
+    let mut world = world(rt, alloc, case, keeper, MOST);
+    let is_left = leaves(rt, alloc, &mut world, UNWRITTEN, true, 3);
+    let is_drained = drains(alloc, &mut world, 16);
+    let book = world.into_book();
+    let is_handled = handles(book.history().get(5), 2);
+    drop(book);
+    is_left && is_drained && is_handled
+}
+
+#[test]
+fn a_drain_handles_what_was_prepared(rt: HostRuntime) {
+    must(
+        &rt,
+        is_handled_by_the_drain(&rt, rt.alloc()),
+        "it is handled",
+    );
+}
+
+// The fourth call of the keeper fails, which the script's third step makes.
+fn ends_at_the_fault(rt: &impl Abort, alloc: Global) -> bool {
+    let case = case(rt, alloc, COUNT, RECORDS);
+    let ends = ends_of(rt, alloc, &case);
+    drop(case);
+    ends
+}
+
+// The same of a case.
+fn ends_of(rt: &impl Abort, alloc: Global, case: &Case) -> bool {
+    let keeper = in_memory(rt, alloc, &[3]);
+    let mut world = world(rt, alloc, case, keeper, MOST);
+    let ends = leaves(rt, alloc, &mut world, UNWRITTEN, false, 2);
+    let goes_on = leaves(rt, alloc, &mut world, "inject 0 0\nclaim 1 1", true, 4);
+    drop(world);
+    ends && goes_on
+}
+
+#[test]
+fn a_script_ends_at_a_fault(rt: HostRuntime) {
+    must(&rt, ends_at_the_fault(&rt, rt.alloc()), "it ends there");
+}

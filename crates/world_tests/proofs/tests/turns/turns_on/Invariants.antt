@@ -1,6 +1,0 @@
-use Rattle.world.specs.WorldDrains.{HasDrain}
-use Rattle.world_tests.proofs.tests.turns.turns_on.Given as goal
-
--- the drain is under way
-abbrev pub invariant-loop : goal.invariant-loop
-invariant-loop g l = HasDrain l.world l.drain
