@@ -2,7 +2,7 @@
 use super::cases::{Answer, ONE, answer_of, is_same};
 use super::traces::{MARKED, NONE, REPLAYED, THREE};
 use crate::tests::text_cases::{RECORDS, TWO};
-use mw_types::NoMemory;
+use crate::tests::{made, must};
 
 // Event files, a text of each, and how many entries it has.
 static ACCEPTED: [(&str, &str, Answer); 4] = [
@@ -13,12 +13,9 @@ static ACCEPTED: [(&str, &str, Answer); 4] = [
 ];
 
 #[test]
-fn audit_accepts(rt: HostRuntime) -> Result<(), NoMemory> {
+fn audit_accepts(rt: HostRuntime) {
     for (events, text, answer) in &ACCEPTED {
-        assert!(rt;
-            is_same(answer_of(rt.alloc(), events, text)?, *answer),
-            "{events}"
-        );
+        let answered = made(&rt, answer_of(rt.alloc(), events, text));
+        must(&rt, is_same(answered, *answer), *events);
     }
-    Ok(())
 }

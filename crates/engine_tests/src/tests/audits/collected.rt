@@ -1,5 +1,6 @@
 //! A line that stands twice, one that was cut off, and one that differs.
 use super::MOST;
+use crate::tests::made;
 use live_outlet::{CollectRefusal, collect};
 use mw_types::NoMemory;
 use std::alloc::Global;
@@ -48,7 +49,7 @@ fn both(alloc: Global) -> Result<[(usize, u32, u32, u32); 2], NoMemory> {
 }
 
 #[test]
-fn collect_once(rt: HostRuntime) -> Result<(), NoMemory> {
-    assert!(rt; both(rt.alloc())? == [(1, 1, 0, 0), (0, 0, 4, 1)]);
-    Ok(())
+fn collect_once(rt: HostRuntime) {
+    let collected = made(&rt, both(rt.alloc()));
+    assert!(rt; collected == [(1, 1, 0, 0), (0, 0, 4, 1)]);
 }

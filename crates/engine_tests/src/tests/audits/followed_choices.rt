@@ -1,6 +1,7 @@
 //! The worked examples as tables of choices.
 use super::cases::case_of;
 use crate::tests::text_cases::RECORDS;
+use crate::tests::{made, must};
 use mw_types::{Entry, Key, NoMemory, RecordId, RowName};
 use run_history::Case;
 use standing::Standing;
@@ -221,26 +222,24 @@ fn sequencer_after(
 }
 
 #[test]
-fn each_choice_of_the_example_has_its_entry(rt: HostRuntime) -> Result<(), NoMemory> {
-    assert!(rt; told_after(rt.alloc(), (&DRAINED, 14))? == (14, true));
-    Ok(())
+fn each_choice_of_the_example_has_its_entry(rt: HostRuntime) {
+    assert!(rt; made(&rt, told_after(rt.alloc(), (&DRAINED, 14))) == (14, true));
 }
 
 #[test]
-fn work_is_left_before_the_last_timer(rt: HostRuntime) -> Result<(), NoMemory> {
-    assert!(rt; told_after(rt.alloc(), (&DRAINED, 12))? == (12, false));
-    Ok(())
+fn work_is_left_before_the_last_timer(rt: HostRuntime) {
+    assert!(rt; made(&rt, told_after(rt.alloc(), (&DRAINED, 12))) == (12, false));
 }
 
 #[test]
-fn a_lawless_choice_is_refused(rt: HostRuntime) -> Result<(), NoMemory> {
+fn a_lawless_choice_is_refused(rt: HostRuntime) {
     for (at, (entries, chosen)) in LAWLESS.iter().enumerate() {
-        assert!(rt;
-            sequencer_after(rt.alloc(), (&DRAINED, *entries), chosen)? == None,
-            "{at}"
+        let sequencer = made(
+            &rt,
+            sequencer_after(rt.alloc(), (&DRAINED, *entries), chosen),
         );
+        must(&rt, sequencer == None, at);
     }
-    Ok(())
 }
 
 // The claims of both intervals, and of the injector's by another worker.
@@ -251,8 +250,7 @@ static CLAIMED_AGAIN: [Chosen; 3] = [
 ];
 
 #[test]
-fn a_later_claim_is_the_one_that_counts(rt: HostRuntime) -> Result<(), NoMemory> {
-    let sequencer = sequencer_after(rt.alloc(), (&CLAIMED_AGAIN, 3), &Chosen::Inject(0))?;
-    assert!(rt; sequencer == Some(2));
-    Ok(())
+fn a_later_claim_is_the_one_that_counts(rt: HostRuntime) {
+    let sequencer = sequencer_after(rt.alloc(), (&CLAIMED_AGAIN, 3), &Chosen::Inject(0));
+    assert!(rt; made(&rt, sequencer) == Some(2));
 }

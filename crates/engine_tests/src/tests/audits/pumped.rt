@@ -8,6 +8,7 @@ ghost use Rattle.run_history.specs.Made.{productions_of};
 ghost use Rattle.run_history.specs.Printing.{IsOnPart, IsPrintable};
 
 use super::MOST;
+use crate::tests::{made, must};
 use injector::{Items, ItemsList};
 use live_outlet::{CollectRefusal, Outlet, collect};
 use mw_ports::{MemSink, SinkFault};
@@ -346,17 +347,13 @@ fn holds(alloc: Global, at: u32) -> Result<bool, NoMemory> {
 }
 
 #[test]
-fn live_ids(rt: HostRuntime) -> Result<(), NoMemory> {
-    assert!(rt; holds(rt.alloc(), 0)?);
-    Ok(())
+fn live_ids(rt: HostRuntime) {
+    assert!(rt; made(&rt, holds(rt.alloc(), 0)));
 }
 
 #[test]
-fn a_text_that_was_cut_at_each_call_in_turn_collects_to_all(
-    rt: HostRuntime,
-) -> Result<(), NoMemory> {
+fn a_text_that_was_cut_at_each_call_in_turn_collects_to_all(rt: HostRuntime) {
     for (at, name) in &[(1, "pumped again"), (2, "taken back and pumped again")] {
-        assert!(rt; holds(rt.alloc(), *at)?, "{name}");
+        must(&rt, made(&rt, holds(rt.alloc(), *at)), *name);
     }
-    Ok(())
 }

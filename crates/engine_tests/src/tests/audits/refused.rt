@@ -2,6 +2,7 @@
 use super::cases::{Answer, answer_of, is_same};
 use super::traces::MARKED;
 use crate::tests::text_cases::TWO;
+use crate::tests::{made, must};
 use mw_types::NoMemory;
 use std::alloc::Global;
 
@@ -114,17 +115,17 @@ fn cut(alloc: Global, end: &str, more: &str) -> Result<Answer, NoMemory> {
 }
 
 #[test]
-fn audit_refuses(rt: HostRuntime) -> Result<(), NoMemory> {
+fn audit_refuses(rt: HostRuntime) {
     for (old, new, answer) in &CHANGED {
-        assert!(rt; is_same(changed(rt.alloc(), old, new)?, *answer), "{new}");
+        let answered = made(&rt, changed(rt.alloc(), old, new));
+        must(&rt, is_same(answered, *answer), *new);
     }
-    Ok(())
 }
 
 #[test]
-fn a_text_that_ends_is_refused(rt: HostRuntime) -> Result<(), NoMemory> {
+fn a_text_that_ends_is_refused(rt: HostRuntime) {
     for (end, more, answer) in &CUT {
-        assert!(rt; is_same(cut(rt.alloc(), end, more)?, *answer), "{end}");
+        let answered = made(&rt, cut(rt.alloc(), end, more));
+        must(&rt, is_same(answered, *answer), *end);
     }
-    Ok(())
 }

@@ -1,4 +1,5 @@
 //! What lines tell of choices, and how a text is cut into lines.
+use crate::tests::{made, must};
 use mw_types::NoMemory;
 use std::alloc::Global;
 use trace_lines::{Choice, begins_entry, choice_at, next_line};
@@ -108,11 +109,14 @@ fn cut(text: &[u8]) -> [(usize, bool); 6] {
 }
 
 #[test]
-fn lines_tell_choices(rt: HostRuntime) -> Result<(), NoMemory> {
+fn lines_tell_choices(rt: HostRuntime) {
     for (line, choice) in &LINES {
-        assert!(rt; is_same(told(rt.alloc(), line)?, *choice), "{line}");
+        must(
+            &rt,
+            is_same(made(&rt, told(rt.alloc(), line)), *choice),
+            *line,
+        );
     }
-    Ok(())
 }
 
 #[test]

@@ -6,6 +6,7 @@ ghost use Rattle.crossbeam_queue.specs.Passes.{IsPassOf};
 ghost use Rattle.node.specs.Messages.{IsAddressed};
 ghost use Rattle.node.specs.Received.{note_of, outgoing_of};
 
+use crate::tests::made;
 use book::NoNote;
 use mailboxes::{MailPass, Mailbox, Office};
 use mw_types::{Key, NoMemory, RecordId, RowName};
@@ -98,8 +99,7 @@ fn taken<R: Wait>(rt: &R, mailbox: &Box, pass: &mut Pass) -> u64
 }
 
 #[test]
-fn mailbox_of_one(rt: HostRuntime) -> Result<(), NoMemory> {
-    let answers = answers(&rt, rt.alloc())?;
+fn mailbox_of_one(rt: HostRuntime) {
+    let answers = made(&rt, answers(&rt, rt.alloc()));
     assert!(rt; answers == [0, 8, 7, 0]);
-    Ok(())
 }
