@@ -1,5 +1,5 @@
-//! The tests of books, of workers at desks, of scripted worlds and of audits, a module for each, and what several of
-//! them stand on.
+//! The tests of the lower crates, of books, of workers at desks, of scripted worlds and of audits, a module for each,
+//! and what several of them stand on.
 //!
 //! A case is a row of a table. A call that fails for want of memory ends the test, and what is handed over is let
 //! go by the function that takes it, so that no function has a way out but its end.
@@ -8,6 +8,8 @@ ghost use Rattle.std.specs.Prelude.{◌≡◌, Ok};
 mod audits;
 mod books;
 mod desks;
+mod entries;
+mod foundations;
 mod keepers;
 mod text_cases;
 mod two_lines;

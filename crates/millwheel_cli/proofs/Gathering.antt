@@ -1,7 +1,7 @@
 -- What is written of a text of live lines, and why one is refused.
-use Rattle.std.proofs.Common.{◌≡◌, ◌≢◌, ◌∙◌, ◌++◌, ℕ, List, [], ◌∷◌, Bool, true, false, not, cond, nat_eq, find, Option, Some, None, Result, Ok, Err, refl, sym, ap, subst, inl, inr, arith}
+use Rattle.std.proofs.Common.{◌≡◌, ◌≢◌, ◌∙◌, ◌++◌, ℕ, List, ◌∷◌, Bool, true, false, not, cond, nat_eq, find, Option, Some, None, Result, Ok, Err, refl, ap}
 use Rattle.std.specs.Option.{option_map, option_map_or}
-use Rattle.std.specs.List.{AllByRecursion, flat_map}
+use Rattle.std.specs.List.{AllByRecursion}
 use Rattle.std.specs.Cmp.Lexicographic.{pointwise, bytes_decides}
 use Rattle.std.specs.BTreeMap.{is_at}
 use Rattle.list_lemmas.proofs.Lists.{none_some, some_same, each-weaker, find-none, find-behind}
@@ -11,8 +11,8 @@ use Rattle.live_outlet.specs.declared.refusal.CollectRefusal.{CollectRefusal}
 use Rattle.live_outlet.specs.declared.refusal.CollectRefusal.TheVariants as collects
 use Rattle.live_outlet.specs.Collecting.{Agrees, IsFirstToDiffer, Telling, WhyNot, first_with, tellings}
 use Rattle.live_outlet.proofs.Finding.{lookup-kept}
-use Rattle.millwheel_cli.specs.declared.status.Status.{Status}
-use Rattle.millwheel_cli.specs.declared.status.Status.TheVariants as status
+use Rattle.task_runs.specs.declared.status.Status.{Status}
+use Rattle.task_runs.specs.declared.status.Status.TheVariants as status
 use Rattle.millwheel_cli.specs.Collects.{collect_taken, differs, first_line}
 use Rattle.millwheel_cli.specs.Inside.{UnlessWant, of_collect}
 

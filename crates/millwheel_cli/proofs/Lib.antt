@@ -6,14 +6,8 @@ pub mod Loading
 pub mod LoadTopology
 pub mod LoadLines
 pub mod LoadTaken
-pub mod Statuses
-pub mod Replaying
-pub mod Running
-pub mod RoundLaws
 pub mod Gathering
-pub mod Living
 pub mod Leaving
-pub mod LiveRuns
-pub mod LivesLeft
+pub mod LateTasks
 pub mod Telling
 pub mod Said

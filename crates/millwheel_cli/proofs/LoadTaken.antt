@@ -10,7 +10,7 @@ use Rattle.topology.specs.Shapes.{Shape}
 use Rattle.injector.specs.Sources.{Source}
 use Rattle.injector.specs.EventFiles.{source_in}
 use Rattle.injector.specs.declared.refusal.LinesRefusal.{LinesRefusal}
-use Rattle.millwheel_cli.specs.declared.status.Status.{Status}
+use Rattle.task_runs.specs.declared.status.Status.{Status}
 use Rattle.millwheel_cli.specs.Limits.{lines_limit}
 use Rattle.millwheel_cli.specs.Files.{fed_of, read_of, source_taken}
 use Rattle.millwheel_cli.specs.Loads.{load_text}

@@ -5,7 +5,7 @@ use Rattle.std.proofs.lemmas.List.{append_assoc}
 use Rattle.json_reading.specs.Refusals.{and_then}
 use Rattle.topology.specs.Shapes.{Shape}
 use Rattle.injector.specs.Sources.{Source}
-use Rattle.millwheel_cli.specs.declared.status.Status.{Status}
+use Rattle.task_runs.specs.declared.status.Status.{Status}
 use Rattle.millwheel_cli.specs.Limits.{lines_limit}
 use Rattle.millwheel_cli.specs.Files.{source_taken}
 use Rattle.millwheel_cli.specs.Loads.{load_text, drawn_after, drawn, record_line, mark_line}

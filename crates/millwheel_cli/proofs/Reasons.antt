@@ -7,10 +7,10 @@ use Rattle.command_line.specs.declared.command.Call.TheVariants.{Solo, Replay, R
 use Rattle.command_line.specs.declared.command.Command.{Command}
 use Rattle.mw_ports.specs.Shelves.{Files}
 use Rattle.topology.specs.Shapes.{Shape}
-use Rattle.millwheel_cli.specs.declared.task.Before.{Before}
-use Rattle.millwheel_cli.specs.declared.task.Task.{Task}
-use Rattle.millwheel_cli.specs.declared.status.Status.{Status}
-use Rattle.millwheel_cli.specs.declared.status.Status.TheVariants as status
+use Rattle.task_runs.specs.declared.task.Before.{Before}
+use Rattle.task_runs.specs.declared.task.Task.{Task}
+use Rattle.task_runs.specs.declared.status.Status.{Status}
+use Rattle.task_runs.specs.declared.status.Status.TheVariants as status
 use Rattle.millwheel_cli.specs.declared.refusal.Refusal.{Refusal}
 use Rattle.millwheel_cli.specs.declared.refusal.Refusal.TheVariants.{NoFile, TopologyRefused, EventsRefused, PlanRefused, NoMemory, ReadFault, TooLong, FileCount, CollectRefused, AuditRefused}
 use Rattle.millwheel_cli.specs.Limits.{plan_limit, events_limit, lines_limit, trace_limit}

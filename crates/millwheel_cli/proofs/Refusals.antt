@@ -1,5 +1,5 @@
 -- What was refused in one step is refused in the next.
-use Rattle.millwheel_cli.specs.declared.status.Status.{Status}
+use Rattle.task_runs.specs.declared.status.Status.{Status}
 use Rattle.millwheel_cli.specs.declared.refusal.Refusal.{Refusal}
 use Rattle.millwheel_cli.specs.declared.refusal.Refusal.TheVariants.{NoFile, TopologyRefused, EventsRefused, PlanRefused, NoMemory, ReadFault, TooLong, FileCount, CollectRefused, AuditRefused}
 use Rattle.millwheel_cli.specs.Inside.{UnlessWant}

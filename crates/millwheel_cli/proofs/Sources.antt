@@ -3,7 +3,7 @@ use Rattle.std.proofs.Common.{◌≡◌, ◌≤◌, ◌+◌, ◌-◌, ◌++◌, 
 use Rattle.std.proofs.lemmas.List.{append_assoc}
 use Rattle.mw_ports.specs.Shelves.{Files}
 use Rattle.injector.specs.Sources.{Source}
-use Rattle.millwheel_cli.specs.declared.status.Status.{Status}
+use Rattle.task_runs.specs.declared.status.Status.{Status}
 use Rattle.millwheel_cli.specs.declared.refusal.Refusal.{Refusal}
 use Rattle.millwheel_cli.specs.Limits.{events_limit, lines_limit}
 use Rattle.millwheel_cli.specs.Files.{HoldsSource, HoldsSources, source_taken}

@@ -16,11 +16,11 @@ use Rattle.plain_answer.specs.Plain.{IsPlainText}
 use Rattle.topology.specs.Shapes.{Shape}
 use Rattle.run_history.specs.Cases.{CaseShape}
 use Rattle.json_reading.specs.Refusals.{and_then}
-use Rattle.millwheel_cli.specs.declared.task.Before.{Before}
-use Rattle.millwheel_cli.specs.declared.task.Task.{Task}
-use Rattle.millwheel_cli.specs.declared.status.Status.{Status}
-use Rattle.millwheel_cli.specs.declared.status.Status.TheVariants.{Usage, NoFile, TopologyRefused, EventsRefused, PlanRefused, KeeperFault, SinkFault, NoMemory, NotEmpty, HistoryFull, RowDamaged, ReadFault, TooLong, FileCount, CollectRefused, AuditRefused}
-use Rattle.millwheel_cli.specs.declared.status.Status.TheVariants as status
+use Rattle.task_runs.specs.declared.task.Before.{Before}
+use Rattle.task_runs.specs.declared.task.Task.{Task}
+use Rattle.task_runs.specs.declared.status.Status.{Status}
+use Rattle.task_runs.specs.declared.status.Status.TheVariants.{Usage, NoFile, TopologyRefused, EventsRefused, PlanRefused, KeeperFault, SinkFault, NoMemory, NotEmpty, HistoryFull, RowDamaged, ReadFault, TooLong, FileCount, CollectRefused, AuditRefused}
+use Rattle.task_runs.specs.declared.status.Status.TheVariants as status
 use Rattle.millwheel_cli.specs.Limits.{topology_limit, plan_limit, events_limit, lines_limit, collect_limit, trace_limit}
 use Rattle.millwheel_cli.specs.Files.{HoldsAs, HoldsSources, topology_taken, source_taken}
 use Rattle.millwheel_cli.specs.Loads.{load_text}
@@ -29,7 +29,8 @@ use Rattle.millwheel_cli.specs.Tasks.{rounds_taken, steps_taken, HoldsBefore, Is
 use Rattle.millwheel_cli.specs.Collects.{collect_taken}
 use Rattle.millwheel_cli.specs.Asked.{is_unkept}
 use Rattle.millwheel_cli.specs.Reasons.{ShelfSeen, IsCallWrong, IsCommandWrong, IsUnread, IsFileRefused, IsPlanRefused, IsSourceRefused, IsRefused, IsCallRefused, IsCommandRefused, HasReason, file_within, file_as, source_before, sources_taken, before_taken, inputs_taken, load_taken, ended, ran_over, answer_for, answer_of, IsAnswer, AsksUnkept, IsUnkeptAnswer}
-use Rattle.millwheel_cli.specs.Answers.{Left, IsFull, IsDamagedAt, IsTextOf, RunLeaves, TextLeaves, CallLeaves, HasRun, HasDone, HasLeft}
+use Rattle.task_runs.specs.Answers.{Left, IsFull, IsDamagedAt, RunLeaves, TextLeaves}
+use Rattle.millwheel_cli.specs.Answers.{IsTextOf, CallLeaves, HasRun, HasDone, HasLeft}
 
 -- what is said of something where it is told is said of it
 told_of : {T : Type 0} (found : Option T) (held : T) (P : T → Type 0) → found ≡ Some held → IfSome found P → P held

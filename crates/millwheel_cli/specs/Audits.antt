@@ -9,8 +9,8 @@ use Rattle.run_history.specs.Cases.{CaseShape}
 use Rattle.run_history.specs.Texts.{as_line}
 use Rattle.trace_lines.specs.Readings.{IsRunText}
 use Rattle.trace_lines.specs.Refusals.{IsFirstWrong}
-use Rattle.millwheel_cli.specs.declared.status.Status.{Status}
-use Rattle.millwheel_cli.specs.declared.status.Status.TheVariants.{AuditRefused}
+use Rattle.task_runs.specs.declared.status.Status.{Status}
+use Rattle.task_runs.specs.declared.status.Status.TheVariants.{AuditRefused}
 use Rattle.millwheel_cli.specs.Limits.{lines_limit, trace_limit}
 use Rattle.millwheel_cli.specs.Files.{HoldsAs, HoldsTopology, HoldsSources}
 

@@ -3,8 +3,8 @@ use Rattle.mw_ports.specs.declared.words.WordsFault.{WordsFault}
 use Rattle.mw_ports.specs.declared.words.WordsFault.TheVariants as words
 use Rattle.row_keeper.specs.declared.keeper.KeeperFault.{KeeperFault}
 use Rattle.row_keeper.specs.declared.keeper.KeeperFault.TheVariants as faults
-use Rattle.millwheel_cli.specs.declared.status.Status.{Status}
-use Rattle.millwheel_cli.specs.declared.status.Status.TheVariants as status
+use Rattle.task_runs.specs.declared.status.Status.{Status}
+use Rattle.task_runs.specs.declared.status.Status.TheVariants as status
 
 -- the status of words that were not read: they are no call, unless memory ran out
 abbrev pub of_unheard : WordsFault → Status

@@ -9,8 +9,8 @@ use Rattle.run_history.specs.Texts.{as_line}
 use Rattle.live_outlet.specs.declared.held.Held.{Held}
 use Rattle.live_outlet.specs.Collecting.{IsCollected, Telling, first_with, tellings}
 use Rattle.live_outlet.specs.Covering.{ended}
-use Rattle.millwheel_cli.specs.declared.status.Status.{Status}
-use Rattle.millwheel_cli.specs.declared.status.Status.TheVariants.{CollectRefused}
+use Rattle.task_runs.specs.declared.status.Status.{Status}
+use Rattle.task_runs.specs.declared.status.Status.TheVariants.{CollectRefused}
 use Rattle.millwheel_cli.specs.Limits.{collect_limit}
 use Rattle.millwheel_cli.specs.Files.{HoldsAs}
 

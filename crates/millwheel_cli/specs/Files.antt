@@ -9,8 +9,8 @@ use Rattle.injector.specs.EventFiles.{source_in}
 use Rattle.injector.specs.declared.refusal.LinesRefusal.{LinesRefusal}
 use Rattle.injector.specs.declared.refusal.LinesRefusal.TheVariants.{Line}
 use Rattle.injector.specs.declared.refusal.LinesRefusal.TheVariants as lines
-use Rattle.millwheel_cli.specs.declared.status.Status.{Status}
-use Rattle.millwheel_cli.specs.declared.status.Status.TheVariants.{TopologyRefused, EventsRefused, FileCount, NoMemory}
+use Rattle.task_runs.specs.declared.status.Status.{Status}
+use Rattle.task_runs.specs.declared.status.Status.TheVariants.{TopologyRefused, EventsRefused, FileCount, NoMemory}
 use Rattle.millwheel_cli.specs.Limits.{topology_limit, events_limit}
 
 -- ---- what bytes are taken for

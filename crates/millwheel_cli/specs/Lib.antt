@@ -5,11 +5,7 @@ pub mod Loads
 pub mod Tasks
 pub mod Collects
 pub mod Audits
-pub mod Lives
 pub mod Reasons
-pub mod Histories
 pub mod Answers
-pub mod Numbers
-pub mod Messages
 pub mod Inside
 pub mod Closing

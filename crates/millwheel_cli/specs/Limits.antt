@@ -1,4 +1,4 @@
--- How long files and histories may be. Own.
+-- How long files may be. Own.
 use Rattle.std.specs.Prelude.{ℕ, ◌^◌}
 use Rattle.text_lines.specs.declared.TheConstants.{LINES_MAX}
 
@@ -25,7 +25,3 @@ trace_limit = 2 ^ 28
 -- how many record lines there may be in all event files
 abbrev pub lines_limit : ℕ
 lines_limit = LINES_MAX
-
--- how many entries a history may have
-abbrev pub history_limit : ℕ
-history_limit = 2 ^ 32

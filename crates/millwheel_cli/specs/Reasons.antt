@@ -14,17 +14,18 @@ use Rattle.topology.specs.Shapes.{Shape}
 use Rattle.injector.specs.Sources.{Source}
 use Rattle.run_history.specs.Cases.{CaseShape}
 use Rattle.row_keeper.specs.Rows.{Rows}
-use Rattle.millwheel_cli.specs.declared.status.Status.{Status}
-use Rattle.millwheel_cli.specs.declared.status.Status.TheVariants.{Usage, NoFile, KeeperFault, SinkFault, NoMemory, NotEmpty, HistoryFull, RowDamaged, ReadFault, TooLong, AuditRefused}
-use Rattle.millwheel_cli.specs.declared.status.Status.TheVariants as status
+use Rattle.task_runs.specs.declared.status.Status.{Status}
+use Rattle.task_runs.specs.declared.status.Status.TheVariants.{Usage, NoFile, KeeperFault, SinkFault, NoMemory, NotEmpty, HistoryFull, RowDamaged, ReadFault, TooLong, AuditRefused}
+use Rattle.task_runs.specs.declared.status.Status.TheVariants as status
 use Rattle.millwheel_cli.specs.Asked.{is_unkept}
-use Rattle.millwheel_cli.specs.Limits.{topology_limit, plan_limit, events_limit, lines_limit, history_limit, collect_limit, trace_limit}
+use Rattle.task_runs.specs.Limits.{history_limit}
+use Rattle.millwheel_cli.specs.Limits.{topology_limit, plan_limit, events_limit, lines_limit, collect_limit, trace_limit}
 use Rattle.millwheel_cli.specs.Files.{topology_taken, source_taken, HoldsAs, HoldsTopology, HoldsSource}
 use Rattle.millwheel_cli.specs.Loads.{load_topology, load_text}
 use Rattle.millwheel_cli.specs.Collects.{collect_taken}
 use Rattle.millwheel_cli.specs.Audits.{HoldsCase, HoldsWrong, trace_taken}
-use Rattle.millwheel_cli.specs.declared.task.Before.{Before}
-use Rattle.millwheel_cli.specs.declared.task.Before.TheVariants.{Steps, Rounds}
+use Rattle.task_runs.specs.declared.task.Before.{Before}
+use Rattle.task_runs.specs.declared.task.Before.TheVariants.{Steps, Rounds}
 use Rattle.millwheel_cli.specs.Tasks.{steps_taken, rounds_taken, HoldsBefore}
 
 -- ---- what the shelf gave

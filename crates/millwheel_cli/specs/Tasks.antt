@@ -1,29 +1,27 @@
 -- What a command is to do, once its files are read: the case of a run, what comes before its drain, and what
 -- is to be written of it. Own.
-use Rattle.std.specs.Prelude.{◌≡◌, ℕ, Bool, true, false, List, [], ◌∷◌, length, if◌then◌else◌, All, Option, Some, None, Result, Ok, Err}
+use Rattle.std.specs.Prelude.{◌≡◌, ℕ, List, [], ◌∷◌, length, Option, Some, None, Result, Ok, Err}
 use Rattle.mw_types.specs.declared.refusal.PlanRefusal.{PlanRefusal}
 use Rattle.mw_types.specs.declared.refusal.PlanRefusal.TheVariants as plans
 use Rattle.command_line.specs.declared.command.Inputs.{Inputs}
 use Rattle.command_line.specs.declared.command.Call.{Call}
 use Rattle.command_line.specs.declared.command.Call.TheVariants.{Solo, Replay, Run, Plain, Load, Collect, Audit}
-use Rattle.command_line.specs.Grammar.{AreSizes}
 use Rattle.mw_ports.specs.Shelves.{Files}
 use Rattle.topology.specs.Shapes.{Shape}
 use Rattle.injector.specs.Sources.{Source}
 use Rattle.run_history.specs.Cases.{CaseShape}
-use Rattle.scripts.specs.Steps.{IsStep}
 use Rattle.schedules.specs.Schedules.{schedule_of}
-use Rattle.plans.specs.Plans.{IsAction, actions_of}
-use Rattle.millwheel_cli.specs.declared.status.Status.{Status}
-use Rattle.millwheel_cli.specs.declared.status.Status.TheVariants.{PlanRefused, NoMemory}
-use Rattle.millwheel_cli.specs.declared.task.Before.{Before}
-use Rattle.millwheel_cli.specs.declared.task.Before.TheVariants.{Steps, Rounds}
-use Rattle.millwheel_cli.specs.declared.task.Task.{Task}
-use Rattle.millwheel_cli.specs.declared.task.Wanted.{Wanted}
-use Rattle.millwheel_cli.specs.declared.task.Wanted.TheVariants as wanted
+use Rattle.plans.specs.Plans.{actions_of}
+use Rattle.task_runs.specs.declared.status.Status.{Status}
+use Rattle.task_runs.specs.declared.status.Status.TheVariants.{PlanRefused, NoMemory}
+use Rattle.task_runs.specs.declared.task.Before.{Before}
+use Rattle.task_runs.specs.declared.task.Before.TheVariants.{Steps, Rounds}
+use Rattle.task_runs.specs.declared.task.Task.{Task}
+use Rattle.task_runs.specs.declared.task.Wanted.TheVariants as wanted
 use Rattle.millwheel_cli.specs.Limits.{plan_limit, lines_limit}
 use Rattle.millwheel_cli.specs.Files.{HoldsAs, HoldsTopology, HoldsSources, topology_taken, source_taken}
 use Rattle.millwheel_cli.specs.Loads.{load_topology, load_text}
+use Rattle.task_runs.specs.Tasks.{wanted_of}
 
 -- ---- what comes before the drain
 
@@ -53,31 +51,6 @@ HoldsBefore files (Run workers rounds None inputs) shape before = before ≡ Rou
 HoldsBefore files (Run workers rounds (Some plan) inputs) shape before =
     HoldsAs files plan plan_limit (rounds_taken shape workers rounds) (Ok before)
 HoldsBefore files _ shape before = before ≡ Steps []
-
--- what comes before the drain names parts, intervals and workers that are there, and its numbers are within
--- their limits
-abbrev pub AreThere : Shape → Before → Type 0
-AreThere shape (Steps steps) = All (IsStep shape) steps
-AreThere shape (Rounds workers rounds actions) =
-    AreSizes workers rounds × All (IsAction shape workers rounds) actions
-
--- whether it is rounds of workers
-abbrev pub is_rounds : Before → Bool
-is_rounds (Steps steps) = false
-is_rounds (Rounds workers rounds actions) = true
-
--- ---- what is to be done
-
--- each result is written at once where that is asked for, and else the lines of the history before its result
--- where these are
-abbrev pub wanted_of : Bool → Bool → Wanted
-wanted_of history live = if live then wanted.EachAtOnce
-    else if history then wanted.HistoryFirst else wanted.ResultAlone
-
--- whether each result is to be written at once
-abbrev pub is_at_once : Wanted → Bool
-is_at_once wanted.EachAtOnce = true
-is_at_once _ = false
 
 -- the task is that of a call with these files: a topology, event files, one an injector, and a plan, where
 -- the call names one

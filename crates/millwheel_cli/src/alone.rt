@@ -1,5 +1,5 @@
 //! The call behind a program that has no threads.
-ghost use Rattle.std.specs.Prelude.{◌≡◌, ◌⊎◌, ◌≤◌, List, [], None, Some};
+ghost use Rattle.std.specs.Prelude.{◌≡◌, ◌⊎◌, ◌≤◌, [], None, Some};
 ghost use Rattle.std.specs.Option.{is_some};
 ghost use Rattle.mw_types.specs.Causes.{Rose};
 ghost use Rattle.mw_ports.specs.Shelves.{Files};
@@ -7,17 +7,17 @@ ghost use Rattle.row_keeper.specs.Rows.{Rows};
 ghost use Rattle.command_line.specs.declared.command.Call.{Call};
 ghost use Rattle.millwheel_cli.specs.Asked.{alone_of};
 ghost use Rattle.millwheel_cli.specs.Reasons.{ShelfSeen, HasReason, IsAnswer, AsksUnkept, IsUnkeptAnswer};
-ghost use Rattle.millwheel_cli.specs.Answers.{Left, HasDone, HasLeft};
+ghost use Rattle.task_runs.specs.Answers.{Left};
+ghost use Rattle.millwheel_cli.specs.Answers.{HasDone, HasLeft};
 
 use crate::asked::read_alone;
 use crate::called::called_alone;
-use crate::done::{Done, unbegun};
 use crate::refusal::status_of_words;
-use crate::status::Status;
 use mw_ports::{Shelf, Sink};
 use mw_types::Name;
 use row_keeper::Keeper;
 use std::alloc::Global;
+use task_runs::{Done, Status, unbegun};
 
 /// Does what the words of the command line say, the program's name left out, for a caller that has no
 /// threads: words that ask for a run are Usage. For every other call it does what `millwheel` does, and says

@@ -1,11 +1,11 @@
 //! What a call asks for, with its files.
-ghost use Rattle.std.specs.Prelude.{◌≡◌, ◌≤◌, ◌<◌, ◌^◌, [], length, Err, IfErr, IfOk, IsOk, true};
-ghost use Rattle.mw_ports.specs.Shelves.{Files};
+ghost use Rattle.std.specs.Prelude.{◌≡◌, ◌≤◌, ◌<◌, ◌^◌, length, Err, IfErr, IfOk, IsOk, true};
 ghost use Rattle.topology.specs.Shapes.{injectors_of};
 ghost use Rattle.command_line.specs.Grammar.{HasSizes};
 ghost use Rattle.millwheel_cli.specs.Asked.{has_task, is_run};
 ghost use Rattle.millwheel_cli.specs.Files.{HoldsTopology};
-ghost use Rattle.millwheel_cli.specs.Tasks.{AreThere, HoldsBefore, IsInputsTask, IsLoadTask, IsTask, is_rounds};
+ghost use Rattle.task_runs.specs.Tasks.{AreThere, is_rounds};
+ghost use Rattle.millwheel_cli.specs.Tasks.{HoldsBefore, IsInputsTask, IsLoadTask, IsTask};
 ghost use Rattle.millwheel_cli.specs.Reasons.{ShelfSeen, IsRefused, IsRefusedFirst, IsCallRefused, IsPlanRefused, IsTopologyRefused, load_taken};
 ghost use Rattle.millwheel_cli.specs.Inside.{UnlessWant};
 
@@ -13,13 +13,13 @@ use crate::form::{bare_case, no_actions, no_steps};
 use crate::load::load_case;
 use crate::reading::{read_rounds, read_sources, read_steps, read_topology};
 use crate::refusal::Refusal;
-use crate::task::{Before, Task, Wanted, wanted_of};
 use command_line::{Call, Inputs};
 use injector::ItemsList;
 use mw_ports::Shelf;
 use mw_types::{Name, NoMemory};
 use run_history::Case;
 use std::alloc::Global;
+use task_runs::{Before, Task, Wanted, wanted_of};
 
 /// Reads the files that a call names, one after the other, up to the first that is refused.
 pub fn read_task<S: Shelf>(alloc: Global, shelf: &mut S, call: &Call) -> Result<Task, Refusal>

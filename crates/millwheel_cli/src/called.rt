@@ -2,18 +2,15 @@
 ghost use Rattle.std.specs.Prelude.{◌≡◌, ◌≤◌, [], false, true};
 ghost use Rattle.std.specs.Option.{is_some};
 ghost use Rattle.mw_types.specs.Causes.{Rose};
-ghost use Rattle.mw_ports.specs.Shelves.{Files};
 ghost use Rattle.command_line.specs.Grammar.{HasSizes};
 ghost use Rattle.millwheel_cli.specs.Asked.{is_run, is_unkept};
 ghost use Rattle.millwheel_cli.specs.Reasons.{ShelfSeen};
-ghost use Rattle.millwheel_cli.specs.Answers.{Left};
+ghost use Rattle.task_runs.specs.Answers.{Left};
 ghost use Rattle.millwheel_cli.specs.Inside.{IsCallEnd};
 
 use crate::asked::has_task;
 use crate::call::read_task;
-use crate::done::{Done, unbegun};
 use crate::refusal::status_of;
-use crate::status::Status;
 use crate::unkept::write_files;
 use crate::work::{work, work_alone};
 use command_line::Call;
@@ -22,6 +19,7 @@ use row_keeper::Keeper;
 use std::alloc::Global;
 use std::sync::Wait;
 use std::thread::Threads;
+use task_runs::{Done, Status, unbegun};
 
 /// Reads the files of a call that asks for no threads, and does what it asks for.
 pub fn called_alone<S: Shelf, K: Keeper, O: Sink>(

@@ -1,11 +1,11 @@
 //! How a call ends by its words or its keeper, when the run itself is not begun or is over.
 ghost use Rattle.std.specs.Prelude.{◌≡◌, if◌then◌else◌, IfErr, IsOk};
 ghost use Rattle.millwheel_cli.specs.Closing.{of_keeper, of_unheard};
-ghost use Rattle.millwheel_cli.specs.Messages.{is_ok};
+ghost use Rattle.task_runs.specs.Messages.{is_ok};
 
-use crate::status::Status;
 use mw_ports::WordsFault;
 use row_keeper::KeeperFault;
+use task_runs::Status;
 
 /// The status where the words of the call were not read, so that no run was begun.
 pub fn unheard(fault: WordsFault) -> Status

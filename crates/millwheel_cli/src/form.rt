@@ -3,17 +3,18 @@ ghost use Rattle.std.specs.Prelude.{◌≡◌, ◌<◌, ◌^◌, [], false, leng
 ghost use Rattle.topology.specs.Shapes.{injectors_of};
 ghost use Rattle.command_line.specs.Grammar.{AreSizes};
 ghost use Rattle.millwheel_cli.specs.Files.{topology_taken, source_taken};
-ghost use Rattle.millwheel_cli.specs.Tasks.{AreThere, is_rounds, rounds_taken, steps_taken};
+ghost use Rattle.task_runs.specs.Tasks.{AreThere, is_rounds};
+ghost use Rattle.millwheel_cli.specs.Tasks.{rounds_taken, steps_taken};
 ghost use Rattle.millwheel_cli.specs.Inside.{of_lines, UnlessWant};
 
 use crate::refusal::Refusal;
-use crate::task::Before;
 use injector::{Items, ItemsList, LinesRefusal, read_lines};
 use mw_types::{NoMemory, Seq};
 use plans::{Actions, read_actions};
 use run_history::Case;
 use schedules::{Schedule, read_schedule};
 use std::alloc::Global;
+use task_runs::Before;
 use topology::{Topology, read};
 
 /// The topology that these bytes are taken for, which has an injector for each event file.

@@ -1,22 +1,22 @@
 //! The reading of files: a topology, a plan, event files.
 ghost use Rattle.std.specs.Prelude.{◌≡◌, ◌≤◌, ◌<◌, ◌^◌, false, length, true, IfErr, IfOk, Ok};
-ghost use Rattle.mw_ports.specs.Shelves.{Files};
 ghost use Rattle.topology.specs.Shapes.{injectors_of};
 ghost use Rattle.command_line.specs.Grammar.{AreSizes};
 ghost use Rattle.millwheel_cli.specs.Limits.{events_limit, lines_limit, plan_limit};
 ghost use Rattle.millwheel_cli.specs.Files.{source_taken, IsContent, HoldsAs, HoldsTopology, HoldsSource, HoldsSources};
-ghost use Rattle.millwheel_cli.specs.Tasks.{AreThere, is_rounds, rounds_taken, steps_taken};
+ghost use Rattle.task_runs.specs.Tasks.{AreThere, is_rounds};
+ghost use Rattle.millwheel_cli.specs.Tasks.{rounds_taken, steps_taken};
 ghost use Rattle.millwheel_cli.specs.Reasons.{ShelfSeen, IsUnread, IsFileRefused, IsTopologyRefused, IsSourceRefused};
 ghost use Rattle.millwheel_cli.specs.Inside.{of_shelf, UnlessWant};
 
 use crate::form::{items_of, rounds_of, steps_of, topology_of};
 use crate::refusal::Refusal;
-use crate::task::Before;
 use injector::{Items, ItemsList};
 use mw_ports::{Shelf, ShelfFault};
 use mw_types::{Bytes, Duplicate, Name, NoMemory, Seq};
 use run_history::Case;
 use std::alloc::Global;
+use task_runs::Before;
 use text_lines::LINES_MAX;
 use topology::Topology;
 

@@ -2,11 +2,11 @@
 ghost use Rattle.std.specs.Prelude.{◌≡◌};
 ghost use Rattle.millwheel_cli.specs.Inside.{status_of, of_words};
 
-use crate::status::Status;
 use command_line::WordsRefusal;
 use injector::LineWhy;
 use live_outlet::CollectRefusal;
 use mw_types::{Name, NoMemory, PlanRefusal};
+use task_runs::Status;
 use topology::TopologyRefusal;
 use trace_lines::{AuditRefusal, AuditWhy};
 

@@ -3,12 +3,12 @@ ghost use Rattle.std.specs.Prelude.{◌≡◌, IfOk, OnErr, OnOk, string_bytes};
 ghost use Rattle.std.specs.Io.KnownBytes.{append_known};
 ghost use Rattle.mw_types.specs.Causes.{HasCause};
 ghost use Rattle.mw_ports.specs.Sinks.{AppendsPrefix};
-ghost use Rattle.millwheel_cli.specs.Numbers.{number_of};
-ghost use Rattle.millwheel_cli.specs.Messages.{told_line};
+ghost use Rattle.task_runs.specs.Numbers.{number_of};
+ghost use Rattle.task_runs.specs.Messages.{told_line};
 
-use crate::status::Status;
 use mw_ports::{Sink, SinkFault, write_all};
 use std::alloc::{AllocError, Global};
+use task_runs::Status;
 
 // The line that says how a call ended.
 fn told_line(alloc: Global, status: &Status) -> Result<String, AllocError>

@@ -1,5 +1,5 @@
 //! The call behind the program.
-ghost use Rattle.std.specs.Prelude.{◌≡◌, ◌⊎◌, ◌≤◌, List, [], None, Some};
+ghost use Rattle.std.specs.Prelude.{◌≡◌, ◌⊎◌, ◌≤◌, [], None, Some};
 ghost use Rattle.std.specs.Option.{is_some};
 ghost use Rattle.mw_types.specs.Causes.{Rose};
 ghost use Rattle.mw_ports.specs.Shelves.{Files};
@@ -7,12 +7,11 @@ ghost use Rattle.row_keeper.specs.Rows.{Rows};
 ghost use Rattle.command_line.specs.declared.command.Call.{Call};
 ghost use Rattle.command_line.specs.Grammar.{command_of};
 ghost use Rattle.millwheel_cli.specs.Reasons.{ShelfSeen, HasReason, IsAnswer, AsksUnkept, IsUnkeptAnswer};
-ghost use Rattle.millwheel_cli.specs.Answers.{Left, HasDone, HasLeft};
+ghost use Rattle.task_runs.specs.Answers.{Left};
+ghost use Rattle.millwheel_cli.specs.Answers.{HasDone, HasLeft};
 
 use crate::called::called;
-use crate::done::{Done, unbegun};
 use crate::refusal::status_of_words;
-use crate::status::Status;
 use command_line::read_words;
 use mw_ports::{Gate, Shelf, Sink};
 use mw_types::Name;
@@ -20,6 +19,7 @@ use row_keeper::Keeper;
 use std::alloc::Global;
 use std::sync::Wait;
 use std::thread::Threads;
+use task_runs::{Done, Status, unbegun};
 
 /// Does what the words of the command line say, the program's name left out.
 ///

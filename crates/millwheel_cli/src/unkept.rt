@@ -1,23 +1,21 @@
 //! A call without a task: a text is written of its files, and no keeper has a part in it.
 ghost use Rattle.std.specs.Prelude.{◌≡◌, ◌≤◌, [], false, IfErr, IfOk};
 ghost use Rattle.mw_types.specs.Causes.{Rose};
-ghost use Rattle.mw_ports.specs.Shelves.{Files};
 ghost use Rattle.millwheel_cli.specs.Asked.{has_task};
 ghost use Rattle.millwheel_cli.specs.Reasons.{ShelfSeen, IsCallRefused};
-ghost use Rattle.millwheel_cli.specs.Answers.{IsTextOf, IsUnrun, Left};
+ghost use Rattle.task_runs.specs.Answers.{IsUnrun, Left};
+ghost use Rattle.millwheel_cli.specs.Answers.{IsTextOf};
 ghost use Rattle.millwheel_cli.specs.Inside.{IsTextEnd, UnlessWant};
 
 use crate::audits::audited_text;
 use crate::collecting::collected_text;
-use crate::done::{Done, unbegun};
 use crate::refusal::{Refusal, status_of};
-use crate::status::Status;
-use crate::text::written;
 use command_line::Call;
 use mw_ports::{Shelf, Sink};
 use mw_types::Bytes;
 use row_keeper::Keeper;
 use std::alloc::Global;
+use task_runs::{Done, Status, unbegun, written};
 
 /// Writes the text of a call without a task, and hands the keeper back as it was.
 pub fn write_files<S: Shelf, K: Keeper, O: Sink>(

@@ -3,21 +3,17 @@ ghost use Rattle.std.specs.Prelude.{◌≡◌, ◌≤◌, [], false, true};
 ghost use Rattle.std.specs.Option.{is_some};
 ghost use Rattle.mw_types.specs.Causes.{Rose};
 ghost use Rattle.millwheel_cli.specs.Asked.{has_task, is_run, is_unkept};
-ghost use Rattle.millwheel_cli.specs.Tasks.{AreThere, is_at_once, is_rounds};
-ghost use Rattle.millwheel_cli.specs.Answers.{CallLeaves, Left};
+ghost use Rattle.task_runs.specs.Tasks.{AreThere, is_at_once, is_rounds};
+ghost use Rattle.task_runs.specs.Answers.{Left};
+ghost use Rattle.millwheel_cli.specs.Answers.{CallLeaves};
 
-use crate::done::Done;
-use crate::plain::count;
-use crate::rounding::run_rounds;
-use crate::run::run;
-use crate::status::Status;
-use crate::task::Task;
 use command_line::Call;
 use mw_ports::{Gate, Sink};
 use row_keeper::Keeper;
 use std::alloc::Global;
 use std::sync::Wait;
 use std::thread::Threads;
+use task_runs::{Done, Status, Task, count, run, run_rounds};
 
 /// Does what a call that asks for no threads asks for with its task: the mode plain counts its case, and each
 /// other runs it over the keeper.

@@ -8,6 +8,7 @@ mod collections;
 mod events;
 mod faults;
 mod histories;
+mod kept;
 mod kept_rows;
 mod lives;
 mod loads;
@@ -15,11 +16,13 @@ mod looks;
 mod many_lines;
 mod plain_counts;
 mod refusals;
+mod repeats;
 mod replays;
 mod runs;
 mod several_files;
 mod statuses;
 mod texts;
+mod threads;
 mod topologies;
 
 use millwheel_cli::Status;
@@ -31,11 +34,6 @@ use std::process::Abort;
 
 // What is said of words that are no command.
 const USAGE: &str = "usage: millwheel MODE ARGS";
-
-// Ends the test where a case does not hold, or there was no memory to tell, and names it.
-fn must<E: Drop>(rt: &impl Abort, holds: Result<bool, E>, name: impl Display + Drop) {
-    assert!(rt; matches!(holds, Ok(true)), "{name}");
-}
 
 // Ends the test where a case does not hold, and names it.
 fn must_hold(rt: &impl Abort, holds: bool, name: impl Display + Drop) {
@@ -67,16 +65,19 @@ fn push_file(rt: &impl Abort, alloc: Global, list: &mut FileList, name: &str, by
     made(rt, list.push(NamedFile { name, bytes }));
 }
 
-// The bytes of a text.
-fn bytes_of(rt: &impl Abort, alloc: Global, text: &str) -> Bytes {
-    Bytes::from_vec(made(rt, text.as_bytes().to_vec(alloc)))
+// The same bytes, as a value that owns them.
+fn bytes_of(rt: &impl Abort, alloc: Global, bytes: &[u8]) -> Bytes {
+    Bytes::from_vec(made(rt, bytes.to_vec(alloc)))
 }
 
-// The words of a line, which stand with one blank between them.
+// The words of a line, which stand with one blank between them; `""` is the empty word.
 fn words(rt: &impl Abort, alloc: Global, line: &str) -> Seq<Name> {
     let mut words = Seq::new(alloc);
-    for word in line.split(' ') {
-        made(rt, words.push(made(rt, Name::of(alloc, word))));
+    if !line.is_empty() {
+        for word in line.split(' ') {
+            let word = if word == "\"\"" { "" } else { word };
+            made(rt, words.push(made(rt, Name::of(alloc, word))));
+        }
     }
     words
 }

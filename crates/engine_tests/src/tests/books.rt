@@ -17,6 +17,7 @@ mod refusals;
 mod rising;
 mod seats;
 mod starts;
+mod tables;
 mod threads;
 mod trials;
 mod turns;

@@ -5,7 +5,6 @@ mod acts;
 mod busy;
 mod closing;
 mod crossing;
-mod entries;
 mod example;
 mod failing;
 mod mailbox_of_one;

@@ -10,13 +10,11 @@ pub(crate) fn in_memory(rt: &impl Abort, alloc: Global, calls: &[u64]) -> MemKee
     MemKeeper::new(alloc, CallList::from_vec(made(rt, calls.to_vec(alloc))))
 }
 
-// A keeper that tells no row, and shows none of a part that is there.
-pub(crate) fn blind(alloc: Global) -> BlindKeeper {
-    BlindKeeper::new(KeptRow {
-        name: RowName {
-            part: 7,
-            key: Key::none(alloc),
-        },
-        bytes: Bytes::new(alloc),
-    })
+// A keeper that tells no row, and shows these bytes for the key `z` of a part. Of part 7, which no test has, it shows
+// none of a part that is there.
+pub(crate) fn blind(rt: &impl Abort, alloc: Global, part: u32, shown: &[u8]) -> BlindKeeper {
+    let key = made(rt, Key::of(alloc, "z"));
+    let bytes = Bytes::from_vec(made(rt, shown.to_vec(alloc)));
+    let name = RowName { part, key };
+    BlindKeeper::new(KeptRow { name, bytes })
 }

@@ -10,10 +10,3 @@ mod tables;
 mod timers;
 mod turns;
 mod whole_scripts;
-
-use std::process::Abort;
-
-// Ends the test where a line of a table does not hold, and names both.
-fn must_be_none(rt: &impl Abort, line: u64, name: &str) {
-    assert!(rt; line == 0, "{name}: line {line}");
-}

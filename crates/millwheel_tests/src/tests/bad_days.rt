@@ -3,11 +3,8 @@
 //!
 //! A case is a row of a table, and one function tells whether it holds. What is handed over is let go by the
 //! function that takes it, so that no case owns anything at a way out.
-mod calls;
 mod each_call;
-mod files;
 mod former_owners;
-mod kept;
 mod lies;
 mod long_files;
 mod overtaken;

@@ -1,11 +1,13 @@
-//! The program's call over files in memory.
+//! The program's own call over files in memory, on one thread.
 use super::events::EVENTS;
 use super::topologies::COUNT;
+use super::{bytes_of, key, made, push_file, words};
 use millwheel_cli::{Done, millwheel_alone};
-use mw_ports::{FileList, MemShelf, MemSink, NamedFile};
-use mw_types::{Bytes, CallList, Name, NoMemory, Seq};
+use mw_ports::{FileList, MemShelf, MemSink};
+use mw_types::{CallList, RowName};
 use row_keeper::{Keeper, MemKeeper};
 use std::alloc::Global;
+use std::process::Abort;
 
 /// Files in memory: the name of each, and what it holds.
 pub type Files<'a> = &'a [(&'a str, &'a str)];
@@ -13,55 +15,40 @@ pub type Files<'a> = &'a [(&'a str, &'a str)];
 /// The line that works off one event file.
 pub const SOLO: &str = "solo t.json e";
 
+/// The line that does the steps of a plan before that.
+pub const REPLAY: &str = "replay --plan p t.json e";
+
 /// The first example: one count over windows of 60, and three records.
 pub const FIRST: Files<'static> = &[("t.json", COUNT), ("e", EVENTS)];
 
-/// The bytes of a text.
-pub(super) fn bytes_of(alloc: Global, text: &[u8]) -> Result<Bytes, NoMemory> {
-    Ok(Bytes::from_vec(text.to_vec(alloc)?))
+/// What fails on a bad day: the calls of these numbers.
+#[derive(Clone, Copy)]
+pub enum Fault<'a> {
+    /// Nothing does.
+    Never,
+    /// Reads of files.
+    Reads(&'a [u64]),
+    /// Calls of the keeper.
+    Keeps(&'a [u64]),
+    /// Writes to a sink that takes eight bytes a call.
+    Writes(&'a [u64]),
+    /// The same, which do not fail but take nothing.
+    Idles(&'a [u64]),
 }
 
-// A file of this name and content.
-fn file(alloc: Global, name: &str, content: &str) -> Result<NamedFile, NoMemory> {
-    let bytes = bytes_of(alloc, content.as_bytes())?;
-    Ok(NamedFile {
-        name: Name::of(alloc, name)?,
-        bytes,
-    })
+// The calls of these numbers.
+fn numbers(rt: &impl Abort, alloc: Global, of: &[u64]) -> CallList {
+    CallList::from_vec(made(rt, of.to_vec(alloc)))
 }
 
-// A list of these files.
-fn listed(alloc: Global, files: Files<'_>) -> Result<FileList, NoMemory> {
+// A shelf with these files, whose reads of these numbers fail.
+fn shelf(rt: &impl Abort, alloc: Global, files: Files<'_>, failing: &[u64]) -> MemShelf {
     let mut list = FileList::new(alloc);
-    push_files(alloc, &mut list, files)?;
-    Ok(list)
-}
-
-// Appends these files.
-fn push_files(alloc: Global, list: &mut FileList, files: Files<'_>) -> Result<(), NoMemory> {
     for (name, content) in files {
-        list.push(file(alloc, name, content)?)?;
+        let bytes = bytes_of(rt, alloc, content.as_bytes());
+        push_file(rt, alloc, &mut list, name, bytes);
     }
-    Ok(())
-}
-
-/// The calls of these numbers.
-pub(super) fn numbers(alloc: Global, of: &[u64]) -> Result<CallList, NoMemory> {
-    let mut calls = CallList::new(alloc);
-    for number in of {
-        calls.push(*number)?;
-    }
-    Ok(calls)
-}
-
-/// A shelf with these files, whose reads of these numbers fail.
-pub(super) fn shelf(
-    alloc: Global,
-    files: Files<'_>,
-    failing: &[u64],
-) -> Result<MemShelf, NoMemory> {
-    let files = listed(alloc, files)?;
-    Ok(MemShelf::of(files, numbers(alloc, failing)?))
+    MemShelf::of(list, numbers(rt, alloc, failing))
 }
 
 /// An ample sink.
@@ -69,54 +56,45 @@ pub(super) fn sink(alloc: Global) -> MemSink {
     MemSink::of(alloc, 65536, CallList::new(alloc), CallList::new(alloc))
 }
 
-/// A keeper without rows that does not fail.
-pub(super) fn keeper(alloc: Global) -> MemKeeper {
-    MemKeeper::new(alloc, CallList::new(alloc))
-}
-
-/// The words of a line, which stand with one blank between them; `""` is the empty word.
-pub(super) fn words(alloc: Global, line: &str) -> Result<Seq<Name>, NoMemory> {
-    let mut words = Seq::new(alloc);
-    if !line.is_empty() {
-        push_words(alloc, &mut words, line)?;
+/// The sink of a bad day, which is an ample one where no write fails.
+pub(super) fn sink_of(rt: &impl Abort, alloc: Global, fault: Fault<'_>) -> MemSink {
+    match fault {
+        Fault::Writes(of) => MemSink::of(alloc, 8, numbers(rt, alloc, of), CallList::new(alloc)),
+        Fault::Idles(of) => MemSink::of(alloc, 8, CallList::new(alloc), numbers(rt, alloc, of)),
+        _ => sink(alloc),
     }
-    Ok(words)
 }
 
-// Appends the words of a line that has some.
-fn push_words(alloc: Global, words: &mut Seq<Name>, line: &str) -> Result<(), NoMemory> {
-    for word in line.split(' ') {
-        let word = if word == "\"\"" { "" } else { word };
-        words.push(Name::of(alloc, word)?)?;
-    }
-    Ok(())
+/// A keeper without rows, whose calls of these numbers fail.
+pub(super) fn keeper(rt: &impl Abort, alloc: Global, failing: &[u64]) -> MemKeeper {
+    MemKeeper::new(alloc, numbers(rt, alloc, failing))
 }
 
-/// What a call with this line answers, and writes to a sink. No other function here calls the program,
-/// since each that does carries what its clauses tell.
+/// Puts a row of part 1 with one byte.
+pub(super) fn put(rt: &impl Abort, alloc: Global, keeper: &mut impl Keeper, text: &str, byte: u8) {
+    let name = RowName {
+        part: 1,
+        key: key(rt, alloc, text),
+    };
+    made(rt, keeper.put(alloc, &name, &[byte]));
+    drop(name);
+}
+
+/// What a call with this line answers over these files, whose reads of these numbers fail, and writes to a sink. No
+/// other function calls the program so, since each that does carries what its clauses tell.
 pub(super) fn called<K: Keeper>(
-    alloc: Global,
-    line: &str,
-    shelf: &mut MemShelf,
-    keeper: K,
-    out: &mut MemSink,
-) -> Result<Done<K>, NoMemory> {
-    let words = words(alloc, line)?;
-    let done = millwheel_alone(alloc, words.as_slice(), shelf, keeper, out);
-    drop(words);
-    Ok(done)
-}
-
-/// The same over these files, whose reads don't fail.
-pub(super) fn answer<K: Keeper>(
+    rt: &impl Abort,
     alloc: Global,
     line: &str,
     files: Files<'_>,
+    failing: &[u64],
     keeper: K,
     out: &mut MemSink,
-) -> Result<Done<K>, NoMemory> {
-    let mut shelf = shelf(alloc, files, &[])?;
-    let done = called(alloc, line, &mut shelf, keeper, out);
+) -> Done<K> {
+    let mut shelf = shelf(rt, alloc, files, failing);
+    let words = words(rt, alloc, line);
+    let done = millwheel_alone(alloc, words.as_slice(), &mut shelf, keeper, out);
+    drop(words);
     drop(shelf);
     done
 }

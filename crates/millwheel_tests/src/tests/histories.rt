@@ -1,11 +1,8 @@
 //! The history of a run, line by line, and the rows that it leaves, by the values of the worked examples.
 use super::calls::{FIRST, Files, SOLO};
-use super::events::repeated;
-use super::looks::{Case, Kind, Look, Rows, holds, seen};
-use super::must;
+use super::looks::{Case, Look, Row, all_hold};
+use super::repeats::{Repeat, all_are_repeated};
 use super::topologies::{COUNT, CUTS, READERS};
-use mw_types::NoMemory;
-use std::alloc::Global;
 
 // The history of the first example, and its text.
 const TWO_WINDOWS: &str = r#"{"do":"claim","interval":0,"n":0,"worker":0}
@@ -87,22 +84,19 @@ const CUT: &str = r#"{"do":"claim","interval":0,"n":0,"worker":0}
 {"fired":2,"handled":2,"injected":2,"late":0}
 "#;
 
-// The line that prints the history too.
-const PRINTED: &str = "solo --history t.json e";
+/// The line that prints the history too.
+pub const PRINTED: &str = "solo --history t.json e";
+
+/// The injector's row has injected three lines, and the last commit number on it is 10.
+pub const INJECTOR: &[u8] =
+    b"\x01\0\0\0\0\0\0\0\x0a\0\0\0\0\0\0\0\0\0\0\0\0\x03\0\0\0\0\0\0\0\0\0\0\0\0";
+
+/// The row of a has no window, timer or id left, and the purge has commit number 13.
+pub const COUNTED: &[u8] = b"\x01\0\0\0\0\0\0\0\x0d\0\0\0\0\0\0\0\x0d\x01\0\0\0\0\0\0\0\0\0\0\0\0\
+    \0\0\0\0\0\0\0\0\0\0\0\0";
 
 // The two rows that the first example leaves.
-const TWO_ROWS: Rows<'static> = &[
-    (
-        0,
-        "",
-        "01000000000000000a00000000000000000000000003000000000000000000000000",
-    ),
-    (
-        1,
-        "a",
-        "01000000000000000d000000000000000d01000000000000000000000000000000000000000000000000",
-    ),
-];
+const TWO_ROWS: &[Row<'static>] = &[(0, "", INJECTOR), (1, "a", COUNTED)];
 
 // What is written of the first example, its entries, and its rows.
 static EXAMPLE: [Case; 3] = [
@@ -113,9 +107,7 @@ static EXAMPLE: [Case; 3] = [
 
 #[test]
 fn two_windows_and_summary(rt: HostRuntime) {
-    for case in &EXAMPLE {
-        must(&rt, holds(rt.alloc(), case), case.0);
-    }
+    all_hold(&rt, rt.alloc(), &EXAMPLE);
 }
 
 // An event file of no line.
@@ -129,9 +121,7 @@ static NOTHING: [Case; 2] = [
 
 #[test]
 fn empty_event_file(rt: HostRuntime) {
-    for case in &NOTHING {
-        must(&rt, holds(rt.alloc(), case), case.0);
-    }
+    all_hold(&rt, rt.alloc(), &NOTHING);
 }
 
 // Histories and their lines.
@@ -170,36 +160,70 @@ static HISTORIES: [Case; 3] = [
 
 #[test]
 fn each_history_has_its_lines(rt: HostRuntime) {
-    for case in &HISTORIES {
-        must(&rt, holds(rt.alloc(), case), case.0);
-    }
+    all_hold(&rt, rt.alloc(), &HISTORIES);
 }
 
-// Whether this entry stands there in the history of so many records of one key.
-fn stands(alloc: Global, records: u32, number: usize, entry: Kind<'_>) -> Result<bool, NoMemory> {
-    let events = repeated(alloc, "{\"key\":\"a\",\"ts\":1}\n", records)?;
-    let files = [("t.json", COUNT), ("e", events.as_str())];
-    let stands = seen(alloc, SOLO, &files, Look::Entry(number, entry));
-    drop(events);
-    stands
-}
+// A record, of which a file has 64 or 65, and the line that works off such a file.
+const RECORD: &str = "{\"key\":\"a\",\"ts\":1}\n";
+
+const REPEATED: &str = "solo t.json f";
 
 // Of so many records of one key, the entry of this number.
-static MANY: [(u32, usize, Kind<'static>); 7] = [
-    (64, 191, ("inject", 63)),
-    (64, 192, ("handle", 191)),
-    (64, 193, ("ack", 191)),
-    (65, 194, ("inject", 64)),
-    (65, 195, ("purge", 194)),
-    (65, 196, ("handle", 194)),
-    (65, 197, ("ack", 194)),
+static MANY: [Repeat; 7] = [
+    (
+        "entry 191",
+        REPEATED,
+        RECORD,
+        64,
+        Look::Entry(191, ("inject", 63)),
+    ),
+    (
+        "entry 192",
+        REPEATED,
+        RECORD,
+        64,
+        Look::Entry(192, ("handle", 191)),
+    ),
+    (
+        "entry 193",
+        REPEATED,
+        RECORD,
+        64,
+        Look::Entry(193, ("ack", 191)),
+    ),
+    (
+        "entry 194",
+        REPEATED,
+        RECORD,
+        65,
+        Look::Entry(194, ("inject", 64)),
+    ),
+    (
+        "entry 195",
+        REPEATED,
+        RECORD,
+        65,
+        Look::Entry(195, ("purge", 194)),
+    ),
+    (
+        "entry 196",
+        REPEATED,
+        RECORD,
+        65,
+        Look::Entry(196, ("handle", 194)),
+    ),
+    (
+        "entry 197",
+        REPEATED,
+        RECORD,
+        65,
+        Look::Entry(197, ("ack", 194)),
+    ),
 ];
 
 // Two claims, and three entries for each of 64 records, stand before entry 194. The row has seen 64 ids
 // then, which it forgets before it handles one more; with 63 it forgets none.
 #[test]
 fn a_row_of_64_ids_forgets_them_before_it_handles_one_more(rt: HostRuntime) {
-    for (records, number, entry) in &MANY {
-        must(&rt, stands(rt.alloc(), *records, *number, *entry), number);
-    }
+    all_are_repeated(&rt, rt.alloc(), &MANY);
 }

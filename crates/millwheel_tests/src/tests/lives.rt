@@ -1,12 +1,8 @@
 //! Results as soon as their entries are there.
-use super::calls::{FIRST, Files, keeper, numbers};
+use super::calls::{FIRST, Fault, Files};
 use super::events::EVENTS;
-use super::looks::{Case, Look, holds, seen_by};
-use super::must;
+use super::looks::{BadCase, Case, Look, all_fail_so, all_hold};
 use super::topologies::{COUNT, TAILS};
-use mw_ports::MemSink;
-use mw_types::{CallList, NoMemory};
-use std::alloc::Global;
 
 // What the first example writes up to its first result, up to its second, and in all.
 const ONE: &str =
@@ -85,42 +81,35 @@ static LIVES: [Case; 5] = [
 
 #[test]
 fn results_are_written_as_their_entries_come(rt: HostRuntime) {
-    for case in &LIVES {
-        must(&rt, holds(rt.alloc(), case), case.0);
-    }
+    all_hold(&rt, rt.alloc(), &LIVES);
 }
 
-// Whether the first example's run over a sink of eight bytes whose call of this number fails ends there, after so
-// many entries and this text.
-fn is_cut(alloc: Global, call: u64, count: usize, text: &str) -> Result<bool, NoMemory> {
-    let failing = numbers(alloc, &[call])?;
-    let mut out = MemSink::of(alloc, 8, failing, CallList::new(alloc));
-    let look = Look::Cut(count, text);
-    let is_so = seen_by(
-        alloc,
-        "solo --live t.json e",
+// The line of the first of them.
+const LIVE: &str = "solo --live t.json e";
+
+// The call of a sink of eight bytes that fails, how many entries there are then, and what was written: the first result
+// is the twelfth entry's, in twelve pieces, and the second the thirteenth's, in twelve too.
+static CUTS: [BadCase; 5] = [
+    ("0", Fault::Writes(&[0]), LIVE, FIRST, Look::Cut(12, "")),
+    (
+        "1",
+        Fault::Writes(&[1]),
+        LIVE,
         FIRST,
-        keeper(alloc),
-        &mut out,
-        look,
-    );
-    drop(out);
-    is_so
-}
-
-// The sink's call that fails, how many entries there are then, and what was written: the first result is the
-// twelfth entry's, in twelve pieces, and the second the thirteenth's, in twelve too.
-static CUTS: [(u64, usize, &str); 5] = [
-    (0, 12, ""),
-    (1, 12, "{\"id\":\"0"),
-    (2, 12, "{\"id\":\"00000000-"),
-    (12, 13, ONE),
-    (24, 14, BOTH),
+        Look::Cut(12, "{\"id\":\"0"),
+    ),
+    (
+        "2",
+        Fault::Writes(&[2]),
+        LIVE,
+        FIRST,
+        Look::Cut(12, "{\"id\":\"00000000-"),
+    ),
+    ("12", Fault::Writes(&[12]), LIVE, FIRST, Look::Cut(13, ONE)),
+    ("24", Fault::Writes(&[24]), LIVE, FIRST, Look::Cut(14, BOTH)),
 ];
 
 #[test]
 fn a_sink_that_fails_stops_the_run(rt: HostRuntime) {
-    for (call, count, text) in &CUTS {
-        must(&rt, is_cut(rt.alloc(), *call, *count, text), *call);
-    }
+    all_fail_so(&rt, rt.alloc(), &CUTS);
 }

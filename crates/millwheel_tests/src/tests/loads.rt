@@ -1,31 +1,29 @@
 //! The mode `load`, and where rows are kept.
-use super::calls::words;
+use super::calls::Fault;
 use super::looks::{Look, seen};
-use super::must;
+use super::{made, must_hold, words};
 use millwheel_cli::{keep_name, load_lines};
-use mw_types::{Name, NoMemory};
+use mw_types::Name;
 use std::alloc::Global;
+use std::process::Abort;
+
+/// What `load 7 3` writes.
+pub const SUMMARY: &str = "{\"fired\":3,\"handled\":3,\"injected\":3,\"late\":0}\n";
 
 #[test]
 fn load_of_three_lines(rt: HostRuntime) {
-    let look = Look::Writes("{\"fired\":3,\"handled\":3,\"injected\":3,\"late\":0}\n");
-    must(&rt, seen(rt.alloc(), "load 7 3", &[], look), "three lines");
+    let look = Look::Writes(SUMMARY);
+    let is_so = seen(&rt, rt.alloc(), "load 7 3", &[], Fault::Never, look);
+    must_hold(&rt, is_so, "three lines");
 }
 
-// Whether the lines of load under seed 7 are so many, and end so.
-fn load_ends_with(alloc: Global, lines: u32, end: &str) -> Result<bool, NoMemory> {
-    let text = load_lines(alloc, 7, lines)?;
-    let is_so = text.as_slice().ends_with(end.as_bytes());
+// Whether so many lines of load under seed 7 end so; where that is all of them, it is all that there is.
+fn load_ends_with(rt: &impl Abort, alloc: Global, lines: u32, end: &str, is_all: bool) -> bool {
+    let text = made(rt, load_lines(alloc, 7, lines));
+    let is_whole = !is_all || text.len() == end.len();
+    let is_so = is_whole && text.as_slice().ends_with(end.as_bytes());
     drop(text);
-    Ok(is_so)
-}
-
-// Whether these are all the lines of load under seed 7.
-fn load_is(alloc: Global, lines: u32, all: &str) -> Result<bool, NoMemory> {
-    let text = load_lines(alloc, 7, lines)?;
-    let is_so = text.as_slice() == all.as_bytes();
-    drop(text);
-    Ok(is_so)
+    is_so
 }
 
 // The lines of load under seed 7, three of them.
@@ -34,22 +32,25 @@ const THREE: &str = r#"{"key":"b","ts":99}
 {"key":"i","ts":32}
 "#;
 
+// So many lines, and all of them or how they end.
+static LINES: [(u32, &str, bool); 2] = [(3, THREE, true), (50, "{\"watermark\":520}\n", false)];
+
 #[test]
 fn the_lines_of_load(rt: HostRuntime) {
-    let end = "{\"watermark\":520}\n";
-    must(&rt, load_is(rt.alloc(), 3, THREE), "three lines");
-    must(&rt, load_ends_with(rt.alloc(), 50, end), "fifty lines");
+    for (lines, end, is_all) in &LINES {
+        let is_so = load_ends_with(&rt, rt.alloc(), *lines, end, *is_all);
+        must_hold(&rt, is_so, *lines);
+    }
 }
 
-// Whether the words of a line keep rows in the file of this name, or in none.
-fn keeps_in(alloc: Global, line: &str, file: Option<&str>) -> Result<bool, NoMemory> {
-    let words = words(alloc, line)?;
-    let name = keep_name(alloc, words.as_slice());
+/// Whether the words of a line keep rows in the file of this name, or in none.
+pub(super) fn keeps_in(rt: &impl Abort, alloc: Global, line: &str, file: Option<&str>) -> bool {
+    let words = words(rt, alloc, line);
+    let name = made(rt, keep_name(alloc, words.as_slice()));
     drop(words);
-    let name = name?;
     let is_so = name.as_ref().map(Name::text) == file;
     drop(name);
-    Ok(is_so)
+    is_so
 }
 
 // Lines, and where rows are kept.
@@ -62,6 +63,6 @@ static KEPT: [(&str, Option<&str>); 3] = [
 #[test]
 fn rows_are_kept_where_the_words_say_so(rt: HostRuntime) {
     for (line, file) in &KEPT {
-        must(&rt, keeps_in(rt.alloc(), line, *file), line);
+        must_hold(&rt, keeps_in(&rt, rt.alloc(), line, *file), *line);
     }
 }

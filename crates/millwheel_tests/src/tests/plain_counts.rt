@@ -1,14 +1,12 @@
 //! The mode `plain`: what it writes is what a run of the same files writes, in each order of its steps.
-use super::calls::{FIRST, Files, SOLO, answer, keeper, sink};
+use super::calls::{FIRST, Fault, Files, REPLAY, SOLO, sink};
 use super::events::EVENTS;
-use super::faults::with_a_row;
-use super::looks::{Look, ONE_ROW, seen, seen_by};
-use super::must;
+use super::looks::{Case, Look, ONE_ROW, all_hold, seen, seen_at, seen_over_a_row};
 use super::topologies::{CHAIN, COUNT, CUTS, SPIKE, TAILS, TWO, UNREAD};
+use super::{made, must_hold};
 use millwheel_cli::load_lines;
-use mw_ports::MemSink;
-use mw_types::{CallList, NoMemory};
 use std::alloc::Global;
+use std::process::Abort;
 use std::str;
 
 // A count that reads one stream twice, by the key and by the key's head.
@@ -202,43 +200,36 @@ const PLAN: &str = "claim 0 0
 inject 0 0
 ";
 
-// Whether the files of a row are counted and run to its text, by a drain alone and behind a plan.
-fn is_counted(alloc: Global, row: &Row) -> Result<bool, NoMemory> {
-    let files = [("t.json", row.topology), ("p", PLAN), ("e", row.events)];
-    let look = Look::Writes(row.text);
-    Ok(
-        seen(alloc, "plain t.json e", &files, look)?
-            && seen(alloc, SOLO, &files, look)?
-            && seen(alloc, "replay --plan p t.json e", &files, look)?,
-    )
+// Ends the test where the files of a row are not counted and run to its text, by a drain alone and behind a plan.
+fn all_are_counted(rt: &impl Abort, alloc: Global, rows: &[Row]) {
+    for row in rows {
+        let files = [("t.json", row.topology), ("p", PLAN), ("e", row.events)];
+        for line in &["plain t.json e", SOLO, REPLAY] {
+            let look = Look::Writes(row.text);
+            let is_so = seen(rt, alloc, line, &files, Fault::Never, look);
+            must_hold(rt, is_so, row.name);
+        }
+    }
 }
 
 #[test]
 fn the_worked_examples_are_counted(rt: HostRuntime) {
-    for row in &WORKED {
-        must(&rt, is_counted(rt.alloc(), row), row.name);
-    }
+    all_are_counted(&rt, rt.alloc(), &WORKED);
 }
 
 #[test]
 fn a_late_record_is_in_no_window_and_at_no_place(rt: HostRuntime) {
-    for row in &LATE {
-        must(&rt, is_counted(rt.alloc(), row), row.name);
-    }
+    all_are_counted(&rt, rt.alloc(), &LATE);
 }
 
 #[test]
 fn a_member_is_read_once_for_each_subscription(rt: HostRuntime) {
-    for row in &READINGS {
-        must(&rt, is_counted(rt.alloc(), row), row.name);
-    }
+    all_are_counted(&rt, rt.alloc(), &READINGS);
 }
 
 #[test]
 fn a_spike_is_judged_by_the_values_before_it(rt: HostRuntime) {
-    for row in &VALUES {
-        must(&rt, is_counted(rt.alloc(), row), row.name);
-    }
+    all_are_counted(&rt, rt.alloc(), &VALUES);
 }
 
 // Two event files, one for each of two injectors.
@@ -254,55 +245,30 @@ const TEXT: &str = r#"{"key":"a","stream":"windows","ts":60,"value":1}
 {"fired":2,"handled":2,"injected":2,"late":0}
 "#;
 
+static TWO_COUNTED: [Case; 1] = [("both files", "plain t.json l r", BOTH, Look::Writes(TEXT))];
+
 #[test]
 fn two_injectors_are_counted(rt: HostRuntime) {
-    must(
-        &rt,
-        seen(rt.alloc(), "plain t.json l r", BOTH, Look::Writes(TEXT)),
-        "both files",
-    );
-}
-
-// Whether a call ended with Ok; what it wrote is in the sink.
-fn is_ended(
-    alloc: Global,
-    line: &str,
-    files: Files<'_>,
-    out: &mut MemSink,
-) -> Result<bool, NoMemory> {
-    let done = answer(alloc, line, files, keeper(alloc), out);
-    let is_ended = match &done {
-        Ok(done) => Ok(done.status.is_ok()),
-        Err(NoMemory) => Err(NoMemory),
-    };
-    drop(done);
-    is_ended
+    all_hold(&rt, rt.alloc(), &TWO_COUNTED);
 }
 
 // Whether the text of these lines is solo's where they are counted.
-fn lines_are_counted(alloc: Global, events: &str) -> Result<bool, NoMemory> {
+fn lines_are_counted(rt: &impl Abort, alloc: Global, events: &str) -> bool {
     let files = [("t.json", CUTS), ("e", events)];
-    let mut solo = wide_sink(alloc);
-    let ran = is_ended(alloc, SOLO, &files, &mut solo);
-    let mut plain = wide_sink(alloc);
-    let counted = is_ended(alloc, "plain t.json e", &files, &mut plain);
-    let is_same = plain.text() == solo.text();
-    drop(plain);
+    let mut solo = sink(alloc);
+    let is_ok = seen_at(rt, alloc, SOLO, &files, &mut solo, Look::Ends);
+    let look = Look::WritesBytes(solo.text());
+    let is_same = seen(rt, alloc, "plain t.json e", &files, Fault::Never, look);
     drop(solo);
-    Ok(ran? && counted? && is_same)
-}
-
-// A sink with room for the text of two thousand lines.
-fn wide_sink(alloc: Global) -> MemSink {
-    MemSink::of(alloc, 1 << 20, CallList::new(alloc), CallList::new(alloc))
+    is_ok && is_same
 }
 
 // The same of two thousand lines of the mode load.
-fn load_is_counted(alloc: Global) -> Result<bool, NoMemory> {
-    let bytes = load_lines(alloc, 7, 2000)?;
+fn load_is_counted(rt: &impl Abort, alloc: Global) -> bool {
+    let bytes = made(rt, load_lines(alloc, 7, 2000));
     let is_so = match str::from_utf8(bytes.as_slice()) {
-        Ok(events) => lines_are_counted(alloc, events),
-        Err(_) => Ok(false),
+        Ok(events) => lines_are_counted(rt, alloc, events),
+        Err(_) => false,
     };
     drop(bytes);
     is_so
@@ -310,20 +276,13 @@ fn load_is_counted(alloc: Global) -> Result<bool, NoMemory> {
 
 #[test]
 fn two_thousand_lines_are_counted_as_solo_does(rt: HostRuntime) {
-    must(&rt, load_is_counted(rt.alloc()), "two thousand lines");
+    must_hold(&rt, load_is_counted(&rt, rt.alloc()), "two thousand lines");
 }
 
-// Whether a keeper that has a row is handed back with it where the first example is counted.
-fn row_is_left(alloc: Global) -> Result<bool, NoMemory> {
-    let keeper = with_a_row(alloc)?;
-    let mut out = sink(alloc);
-    let look = Look::Counted(ONE_ROW);
-    let is_so = seen_by(alloc, "plain t.json e", FIRST, keeper, &mut out, look);
-    drop(out);
-    is_so
-}
-
+// A keeper that has a row is handed back with it where the first example is counted.
 #[test]
 fn a_keeper_that_has_a_row_is_not_called(rt: HostRuntime) {
-    must(&rt, row_is_left(rt.alloc()), "the row of h0");
+    let look = Look::Counted(ONE_ROW);
+    let is_so = seen_over_a_row(&rt, rt.alloc(), "plain t.json e", FIRST, look);
+    must_hold(&rt, is_so, "the row of h0");
 }

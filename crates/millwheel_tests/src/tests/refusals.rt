@@ -1,103 +1,95 @@
 //! Words and files that are refused, and what is said of them.
-use super::calls::{FIRST, Files, SOLO, called, keeper, shelf, sink};
-use super::events::{EVENTS, repeated};
-use super::looks::{Look, ended_so, seen};
+use super::USAGE;
+use super::calls::{FIRST, Fault, Files, REPLAY, SOLO};
+use super::events::EVENTS;
+use super::looks::{BadCase, Look, Refusal, all_are_refused, all_fail_so};
+use super::repeats::{Repeat, all_are_repeated};
 use super::topologies::{COUNT, TWO};
-use super::{USAGE, must};
-use mw_types::NoMemory;
-use std::alloc::Global;
-
-// Whether the first example is refused with this message where the read of this number fails.
-fn read_fails(alloc: Global, number: u64, message: &str) -> Result<bool, NoMemory> {
-    let mut shelf = shelf(alloc, FIRST, &[number])?;
-    let mut out = sink(alloc);
-    let done = called(alloc, SOLO, &mut shelf, keeper(alloc), &mut out);
-    drop(shelf);
-    let is_so = ended_so(alloc, &done, out.text(), Look::Refused(message));
-    drop(done);
-    drop(out);
-    is_so
-}
 
 // Reads that fail, and what is said of each.
-static READS: [(u64, &str); 2] = [(0, "can't read t.json"), (1, "can't read e")];
+static READS: [BadCase; 2] = [
+    (
+        "the topology",
+        Fault::Reads(&[0]),
+        SOLO,
+        FIRST,
+        Look::Refused("can't read t.json"),
+    ),
+    (
+        "the events",
+        Fault::Reads(&[1]),
+        SOLO,
+        FIRST,
+        Look::Refused("can't read e"),
+    ),
+];
 
 #[test]
 fn a_file_that_cannot_be_read_is_named(rt: HostRuntime) {
-    for (number, message) in &READS {
-        must(&rt, read_fails(rt.alloc(), *number, message), number);
-    }
+    all_fail_so(&rt, rt.alloc(), &READS);
 }
 
-// Whether this is refused with this message where a topology is so many blanks.
-fn blanks_are_refused(alloc: Global, count: u32, message: &str) -> Result<bool, NoMemory> {
-    let blanks = repeated(alloc, " ", count)?;
-    let files = [("t.json", blanks.as_str()), ("e", EVENTS)];
-    let is_so = seen(alloc, SOLO, &files, Look::Refused(message));
-    drop(blanks);
-    is_so
-}
+// The line of calls whose topology is so many blanks.
+const BLANK: &str = "solo f e";
 
 // Blanks alone are within the limit, and are no JSON text.
-static BLANKS: [(u32, &str); 2] = [
-    (1048576, "topology refused: NotJson"),
-    (1048577, "too long: t.json"),
+static BLANKS: [Repeat; 2] = [
+    (
+        "within the limit",
+        BLANK,
+        " ",
+        1048576,
+        Look::Refused("topology refused: NotJson"),
+    ),
+    (
+        "above it",
+        BLANK,
+        " ",
+        1048577,
+        Look::Refused("too long: f"),
+    ),
 ];
 
 #[test]
 fn a_topology_that_is_too_long_is_refused(rt: HostRuntime) {
-    for (count, message) in &BLANKS {
-        must(&rt, blanks_are_refused(rt.alloc(), *count, message), count);
-    }
+    all_are_repeated(&rt, rt.alloc(), &BLANKS);
 }
 
-// Whether a topology is refused with this message that has one place of the count changed.
-fn change_is_refused(alloc: Global, old: &str, new: &str, message: &str) -> Result<bool, NoMemory> {
-    let topology = changed(alloc, old, new)?;
-    let files = [("t.json", topology.as_str()), ("e", EVENTS)];
-    let is_so = seen(alloc, SOLO, &files, Look::Refused(message));
-    drop(topology);
-    is_so
-}
-
-// The topology of the count with one place changed.
-fn changed(alloc: Global, old: &str, new: &str) -> Result<String, NoMemory> {
-    let (head, tail) = COUNT.split_once(old).unwrap_or(("", ""));
-    let topology = format!(in alloc; "{head}{new}{tail}")?;
-    Ok(topology)
-}
-
-// The end of the injectors, where more may stand.
-const END: &str = "],\"computations\"";
-
-// Places of the topology of the count, what stands there, and what is said of it.
-static CHANGES: [(&str, &str, &str); 3] = [
+// The topology of the count with one place changed: it reads another stream, and there are two and three injectors.
+const LATER: Files<'static> = &[
     (
-        "\"reads\":[{\"stream\":\"raw\"",
-        "\"reads\":[{\"stream\":\"later\"",
-        "topology refused: UnknownStream",
+        "t.json",
+        r#"{"injectors":[{"name":"clicks","stream":"raw"}],"computations":[{"name":"per_minute","kind":"count","size":60,"reads":[{"stream":"later","by":"key"}],"stream":"windows"}]}"#,
     ),
+    ("e", EVENTS),
+];
+
+const MORE: Files<'static> = &[
     (
-        END,
-        ",{\"name\":\"taps\",\"stream\":\"more\"}],\"computations\"",
-        "1 event files for 2 injectors",
+        "t.json",
+        r#"{"injectors":[{"name":"clicks","stream":"raw"},{"name":"taps","stream":"more"}],"computations":[{"name":"per_minute","kind":"count","size":60,"reads":[{"stream":"raw","by":"key"}],"stream":"windows"}]}"#,
     ),
+    ("e", EVENTS),
+];
+
+const MOST: Files<'static> = &[
     (
-        END,
-        ",{\"name\":\"taps\",\"stream\":\"more\"},{\"name\":\"views\",\"stream\":\"seen\"}],\"computations\"",
-        "1 event files for 3 injectors",
+        "t.json",
+        r#"{"injectors":[{"name":"clicks","stream":"raw"},{"name":"taps","stream":"more"},{"name":"views","stream":"seen"}],"computations":[{"name":"per_minute","kind":"count","size":60,"reads":[{"stream":"raw","by":"key"}],"stream":"windows"}]}"#,
     ),
+    ("e", EVENTS),
+];
+
+// What is said of each.
+static CHANGES: [Refusal; 3] = [
+    (SOLO, LATER, "topology refused: UnknownStream"),
+    (SOLO, MORE, "1 event files for 2 injectors"),
+    (SOLO, MOST, "1 event files for 3 injectors"),
 ];
 
 #[test]
 fn a_topology_is_refused_for_its_streams_or_its_files(rt: HostRuntime) {
-    for (old, new, message) in &CHANGES {
-        must(
-            &rt,
-            change_is_refused(rt.alloc(), old, new, message),
-            message,
-        );
-    }
+    all_are_refused(&rt, rt.alloc(), &CHANGES);
 }
 
 // Event files and a plan, each with a bad line.
@@ -122,13 +114,11 @@ const PLANNED: Files<'static> = &[
 // One file more than there are injectors.
 const ONE_MORE: Files<'static> = &[("t.json", COUNT), ("l", EVENTS), ("r", EVENTS)];
 
-// The lines of calls with two event files, and with a plan.
+// The line of calls with two event files.
 const TWO_FILES: &str = "solo t.json l r";
 
-const PLAN: &str = "replay --plan p t.json e";
-
 // Calls that are refused: words that are no command, files that are not there, and files with a bad line.
-static REFUSED: [(&str, Files<'static>, &str); 31] = [
+static REFUSED: [Refusal; 31] = [
     ("", FIRST, USAGE),
     ("\"\"", FIRST, USAGE),
     ("solo", FIRST, USAGE),
@@ -166,29 +156,25 @@ static REFUSED: [(&str, Files<'static>, &str); 31] = [
         UNSTAMPED,
         "events refused: file 1 line 2: BadStamp",
     ),
-    (PLAN, PLANNED, "plan refused: line 2"),
+    (REPLAY, PLANNED, "plan refused: line 2"),
     (TWO_FILES, ONE_MORE, "2 event files for 1 injectors"),
 ];
 
 #[test]
 fn words_and_files_are_refused(rt: HostRuntime) {
-    for (line, files, message) in &REFUSED {
-        let is_so = seen(rt.alloc(), line, files, Look::Refused(message));
-        must(&rt, is_so, format_args!("{line}: {message}"));
-    }
+    all_are_refused(&rt, rt.alloc(), &REFUSED);
 }
 
-// Whether the second file is refused after a first of so many records.
-fn no_room_is_left(alloc: Global, records: u32) -> Result<bool, NoMemory> {
-    let first = repeated(alloc, "{\"key\":\"a\",\"ts\":1}\n", records)?;
-    let files = [("t.json", TWO), ("l", first.as_str()), ("r", EVENTS)];
-    let look = Look::Refused("events refused: file 1 line 2: TooManyLines");
-    let is_so = seen(alloc, TWO_FILES, &files, look);
-    drop(first);
-    is_so
-}
+// The second file after a first of so many records.
+static ROOM: [Repeat; 1] = [(
+    "the second line",
+    "solo two.json f e",
+    "{\"key\":\"a\",\"ts\":1}\n",
+    262143,
+    Look::Refused("events refused: file 1 line 2: TooManyLines"),
+)];
 
 #[test]
 fn the_second_file_has_the_room_that_is_left(rt: HostRuntime) {
-    must(&rt, no_room_is_left(rt.alloc(), 262143), "the second line");
+    all_are_repeated(&rt, rt.alloc(), &ROOM);
 }

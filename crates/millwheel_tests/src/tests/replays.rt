@@ -1,10 +1,11 @@
 //! Plans whose steps are done before the drain.
+use super::calls::{Fault, REPLAY};
 use super::events::EVENTS;
 use super::looks::{Look, seen};
-use super::must;
+use super::must_hold;
 use super::topologies::COUNT;
-use mw_types::NoMemory;
 use std::alloc::Global;
+use std::process::Abort;
 
 /// The second worker claims the row while the first has its record prepared, whose write is then stale.
 pub const OLD_OWNER: &str = "claim 0 0
@@ -64,29 +65,44 @@ pub const TEXT: &str = r#"{"key":"a","stream":"windows","ts":60,"value":2}
 {"fired":2,"handled":3,"injected":3,"late":0}
 "#;
 
-// Whether a replay of a plan over the first example has the first example's text and so many entries.
-fn is_replayed(alloc: Global, plan: &str, count: usize) -> Result<bool, NoMemory> {
-    let files = [("t.json", COUNT), ("p", plan), ("e", EVENTS)];
-    seen(
-        alloc,
-        "replay --plan p t.json e",
-        &files,
-        Look::Runs(TEXT, count),
-    )
+/// A call with a plan over the first example: its name, its line, its plan, and what is asked of it.
+pub type Planned<'a> = (&'a str, &'a str, &'a str, Look<'a>);
+
+/// Ends the test where such a call is not so, and names it.
+pub(super) fn all_are_planned(rt: &impl Abort, alloc: Global, calls: &[Planned<'_>]) {
+    for (name, line, plan, look) in calls {
+        let files = [("t.json", COUNT), ("p", *plan), ("e", EVENTS)];
+        let is_so = seen(rt, alloc, line, &files, Fault::Never, *look);
+        must_hold(rt, is_so, *name);
+    }
 }
 
-// After the old owner's plan, of six entries, the drain claims twice, writes three entries for each of two
-// records and one for each of two timers, and purges once.
-static REPLAYS: [(&str, &str, usize); 4] = [
-    ("old owner is stale", OLD_OWNER, 17),
-    ("late copy", LATE_COPY, 17),
-    ("crash between write and send", UNSENT, 18),
-    ("crash before write", UNWRITTEN, 16),
+// Plans after which the first example's text is written, and how many entries there are. After the old owner's plan, of
+// six entries, the drain claims twice, writes three entries for each of two records and one for each of two timers, and
+// purges once.
+static REPLAYS: [Planned<'static>; 4] = [
+    (
+        "old owner is stale",
+        REPLAY,
+        OLD_OWNER,
+        Look::Runs(TEXT, 17),
+    ),
+    ("late copy", REPLAY, LATE_COPY, Look::Runs(TEXT, 17)),
+    (
+        "crash between write and send",
+        REPLAY,
+        UNSENT,
+        Look::Runs(TEXT, 18),
+    ),
+    (
+        "crash before write",
+        REPLAY,
+        UNWRITTEN,
+        Look::Runs(TEXT, 16),
+    ),
 ];
 
 #[test]
 fn a_crash_or_an_old_owner_changes_no_text(rt: HostRuntime) {
-    for (name, plan, count) in &REPLAYS {
-        must(&rt, is_replayed(rt.alloc(), plan, *count), name);
-    }
+    all_are_planned(&rt, rt.alloc(), &REPLAYS);
 }

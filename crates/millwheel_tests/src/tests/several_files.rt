@@ -1,7 +1,6 @@
 //! Two event files, one for each of two injectors.
 use super::calls::Files;
-use super::looks::{Case, Look, holds};
-use super::must;
+use super::looks::{Case, Look, all_hold};
 use super::topologies::TWO;
 
 // A record of each injector, in windows of their own.
@@ -34,7 +33,5 @@ static LOOKS: [Case; 3] = [
 
 #[test]
 fn two_injectors_hold_the_watermark(rt: HostRuntime) {
-    for case in &LOOKS {
-        must(&rt, holds(rt.alloc(), case), case.0);
-    }
+    all_hold(&rt, rt.alloc(), &LOOKS);
 }

@@ -1,40 +1,29 @@
 //! What is said of each status, and the number with which the process ends.
-use super::calls::{bytes_of, numbers, sink};
-use super::must;
+use super::calls::{Fault, sink, sink_of};
+use super::{bytes_of, key, made, must_hold};
 use injector::LineWhy;
 use millwheel_cli::{Status, tell};
 use mw_ports::MemSink;
-use mw_types::{CallList, Key, KeyRefusal, Name, NoMemory, RowName};
+use mw_types::{Name, RowName};
 use std::alloc::Global;
+use std::process::Abort;
 use topology::TopologyRefusal;
 use trace_lines::AuditWhy;
 
 // The status of a number, as the table below has it.
-fn numbered(alloc: Global, number: u8) -> Result<Status, KeyRefusal> {
+fn numbered(rt: &impl Abort, alloc: Global, number: u8) -> Status {
     match number {
-        3 | 13 | 14 => Ok(of_file(alloc, number)?),
-        4 | 5 | 6 | 15 | 17 | 18 => Ok(of_rule(number)),
-        10 => not_empty(alloc),
-        12 => damaged(alloc),
-        _ => Ok(alone(number)),
+        3 | 13 | 14 => of_file(rt, alloc, number),
+        10 | 12 => of_row(rt, alloc, number),
+        _ => alone(number),
     }
 }
 
-// The status of a number that names nothing.
+// The status of a number that names no file and no row.
 fn alone(number: u8) -> Status {
     match number {
         0 => Status::Ok,
         2 => Status::Usage,
-        7 => Status::KeeperFault,
-        8 => Status::SinkFault,
-        9 => Status::NoMemory,
-        _ => Status::HistoryFull,
-    }
-}
-
-// The status of a number that names a rule.
-fn of_rule(number: u8) -> Status {
-    match number {
         4 => Status::TopologyRefused {
             why: TopologyRefusal::UnknownStream,
         },
@@ -44,6 +33,10 @@ fn of_rule(number: u8) -> Status {
             why: LineWhy::NotJson,
         },
         6 => Status::PlanRefused { line: 2 },
+        7 => Status::KeeperFault,
+        8 => Status::SinkFault,
+        9 => Status::NoMemory,
+        11 => Status::HistoryFull,
         17 => Status::AuditRefused {
             line: 6,
             why: AuditWhy::Unlawful,
@@ -57,43 +50,34 @@ fn of_rule(number: u8) -> Status {
 }
 
 // The status of a number that names a file.
-fn of_file(alloc: Global, number: u8) -> Result<Status, NoMemory> {
-    let name = Name::of(alloc, if number == 3 { "t.json" } else { "e" })?;
-    Ok(match number {
+fn of_file(rt: &impl Abort, alloc: Global, number: u8) -> Status {
+    let text = if number == 3 { "t.json" } else { "e" };
+    let name = made(rt, Name::of(alloc, text));
+    match number {
         3 => Status::NoFile { name },
         13 => Status::ReadFault { name },
         _ => Status::TooLong { name },
-    })
+    }
 }
 
-// The status of a keeper that has a row.
-fn not_empty(alloc: Global) -> Result<Status, KeyRefusal> {
-    let bytes = bytes_of(alloc, b"\0".as_slice())?;
-    let key = Key::of(alloc, "h0")?;
-    let name = RowName { part: 1, key };
-    Ok(Status::NotEmpty { name, bytes })
+// The status of a number that names a row: of a keeper that has one, and of one whose injector has a damaged one.
+fn of_row(rt: &impl Abort, alloc: Global, number: u8) -> Status {
+    let (part, text) = if number == 10 { (1, "h0") } else { (0, "") };
+    let key = key(rt, alloc, text);
+    let name = RowName { part, key };
+    let bytes = bytes_of(rt, alloc, b"\0");
+    match number {
+        10 => Status::NotEmpty { name, bytes },
+        _ => Status::RowDamaged { name, bytes },
+    }
 }
 
-// The status of a keeper whose injector has a damaged row.
-fn damaged(alloc: Global) -> Result<Status, KeyRefusal> {
-    let bytes = bytes_of(alloc, b"\0".as_slice())?;
-    let key = Key::none(alloc);
-    let name = RowName { part: 0, key };
-    Ok(Status::RowDamaged { name, bytes })
-}
-
-// Whether the status of a number is told by this line and this number.
-fn is_told(alloc: Global, number: u8, line: &str) -> Result<bool, KeyRefusal> {
-    let status = numbered(alloc, number)?;
-    let is_told = tells(alloc, &status, number, line);
+// Whether the status of a number is told by this line and this number. The sink, which has no text yet, is handed over.
+fn is_told(rt: &impl Abort, alloc: Global, number: u8, err: MemSink, line: &str) -> bool {
+    let mut err = err;
+    let status = numbered(rt, alloc, number);
+    let told = tell(alloc, &status, &mut err);
     drop(status);
-    Ok(is_told)
-}
-
-// Whether a status is told by this line and this number.
-fn tells(alloc: Global, status: &Status, number: u8, line: &str) -> bool {
-    let mut err = sink(alloc);
-    let told = tell(alloc, status, &mut err);
     let is_so = told == number && err.text() == line.as_bytes();
     drop(err);
     is_so
@@ -123,21 +107,15 @@ static STATUSES: [(u8, &str); 17] = [
 #[test]
 fn each_status_is_told_with_its_number(rt: HostRuntime) {
     for (number, line) in &STATUSES {
-        must(&rt, is_told(rt.alloc(), *number, line), number);
+        let is_told = is_told(&rt, rt.alloc(), *number, sink(rt.alloc()), line);
+        must_hold(&rt, is_told, *number);
     }
 }
 
-// Whether a full history has its number where nothing can be written after eight bytes.
-fn is_told_in_part(alloc: Global) -> Result<bool, NoMemory> {
-    let failing = numbers(alloc, &[1])?;
-    let mut err = MemSink::of(alloc, 8, failing, CallList::new(alloc));
-    let number = tell(alloc, &Status::HistoryFull, &mut err);
-    let is_so = number == 11 && err.text() == b"millwhee".as_slice();
-    drop(err);
-    Ok(is_so)
-}
-
+// A full history has its number where nothing can be written after eight bytes.
 #[test]
 fn a_status_that_is_not_told_has_its_number(rt: HostRuntime) {
-    must(&rt, is_told_in_part(rt.alloc()), "a full history");
+    let err = sink_of(&rt, rt.alloc(), Fault::Writes(&[1]));
+    let is_told = is_told(&rt, rt.alloc(), 11, err, "millwhee");
+    must_hold(&rt, is_told, "a full history");
 }

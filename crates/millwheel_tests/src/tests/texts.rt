@@ -1,11 +1,11 @@
 //! What is written of a run, by the values of the worked examples.
-use super::calls::{Files, SOLO};
+use super::calls::{Fault, Files, SOLO};
 use super::events::{EVENTS, heads};
-use super::looks::{Case, Look, holds, seen};
-use super::must;
+use super::looks::{Case, Look, Row, all_hold, seen};
+use super::must_hold;
 use super::topologies::{CHAIN, COUNT, CUTS, HEADS, READERS, SPELLED, SPIKE, TAILS, UNREAD};
-use mw_types::NoMemory;
 use std::alloc::Global;
+use std::process::Abort;
 
 // Three records of one hour.
 const HOUR: &str = r#"{"key":"a","stream":"hours","ts":3600,"value":2}
@@ -94,9 +94,7 @@ static MARKED: [Case; 4] = [
 
 #[test]
 fn the_watermark_says_what_is_late(rt: HostRuntime) {
-    for case in &MARKED {
-        must(&rt, holds(rt.alloc(), case), case.0);
-    }
+    all_hold(&rt, rt.alloc(), &MARKED);
 }
 
 // One record of a value, and that it is passed on.
@@ -150,6 +148,20 @@ const READ: Files<'static> = &[("t.json", READERS), ("e", "{\"key\":\"a\",\"ts\"
 
 const TAILED: Files<'static> = &[("t.json", TAILS), ("e", VALUED)];
 
+// The rows that the latter leaves. The last commit on the injector's is 4, and the purge of the other has number 5.
+const TAIL_ROWS: &[Row<'static>] = &[
+    (
+        0,
+        "",
+        b"\x01\0\0\0\0\0\0\0\x04\0\0\0\0\0\0\0\0\0\0\0\0\x01\0\0\0\0\0\0\0\0\0\0\0\0",
+    ),
+    (
+        1,
+        "x",
+        b"\x01\0\0\0\0\0\0\0\x05\0\0\0\0\0\0\0\x05\x03\0\0\0\0\0\0\0\0\0\0\0\0\0\0\0\0\0\0\0\0",
+    ),
+];
+
 // Topologies, and what is written, done or left of an event file.
 static TEXTS: [Case; 10] = [
     ("pass by tail", SOLO, TAILED, Look::Writes(PASSED)),
@@ -157,7 +169,7 @@ static TEXTS: [Case; 10] = [
         "a row is named by the tail",
         SOLO,
         TAILED,
-        Look::LastRow(2, (1, "x")),
+        Look::Leaves(TAIL_ROWS),
     ),
     ("two readers of one stream", SOLO, READ, Look::Writes(BOTH)),
     (
@@ -209,9 +221,7 @@ static TEXTS: [Case; 10] = [
 
 #[test]
 fn each_topology_has_its_text(rt: HostRuntime) {
-    for case in &TEXTS {
-        must(&rt, holds(rt.alloc(), case), case.0);
-    }
+    all_hold(&rt, rt.alloc(), &TEXTS);
 }
 
 // What is written of a thousand records by the key's head.
@@ -223,15 +233,15 @@ const BY_HEAD: &str = r#"{"key":"h0","stream":"windows","ts":1000,"value":250}
 "#;
 
 // Whether it is.
-fn heads_write(alloc: Global) -> Result<bool, NoMemory> {
-    let events = heads(alloc)?;
+fn heads_write(rt: &impl Abort, alloc: Global) -> bool {
+    let events = heads(rt, alloc);
     let files = [("t.json", HEADS), ("e", events.as_str())];
-    let is_so = seen(alloc, SOLO, &files, Look::Writes(BY_HEAD));
+    let is_so = seen(rt, alloc, SOLO, &files, Fault::Never, Look::Writes(BY_HEAD));
     drop(events);
     is_so
 }
 
 #[test]
 fn windows_by_head(rt: HostRuntime) {
-    must(&rt, heads_write(rt.alloc()), "a thousand records");
+    must_hold(&rt, heads_write(&rt, rt.alloc()), "a thousand records");
 }

@@ -1,8 +1,8 @@
 //! Texts that are accepted.
-use super::cases::{Answer, ONE, answer_of, is_same};
+use super::cases::{Answer, ONE, answer_of};
 use super::traces::{MARKED, NONE, REPLAYED, THREE};
+use crate::tests::must;
 use crate::tests::text_cases::{RECORDS, TWO};
-use crate::tests::{made, must};
 
 // Event files, a text of each, and how many entries it has.
 static ACCEPTED: [(&str, &str, Answer); 4] = [
@@ -15,7 +15,7 @@ static ACCEPTED: [(&str, &str, Answer); 4] = [
 #[test]
 fn audit_accepts(rt: HostRuntime) {
     for (events, text, answer) in &ACCEPTED {
-        let answered = made(&rt, answer_of(rt.alloc(), events, text));
-        must(&rt, is_same(answered, *answer), *events);
+        let answered = answer_of(&rt, rt.alloc(), events, text);
+        must(&rt, answered == *answer, *events);
     }
 }

@@ -7,18 +7,18 @@ ghost use Rattle.topology.specs.Samples.{one_count};
 ghost use Rattle.run_history.specs.Made.{productions_of};
 ghost use Rattle.run_history.specs.Printing.{IsOnPart, IsPrintable};
 
-use super::MOST;
+use super::collected::collected;
+use crate::tests::two_lines::two_line_case;
 use crate::tests::{made, must};
-use injector::{Items, ItemsList};
-use live_outlet::{CollectRefusal, Outlet, collect};
-use mw_ports::{MemSink, SinkFault};
+use live_outlet::Outlet;
+use mw_ports::MemSink;
 use mw_types::{
-    Bytes, CallList, Effects, Entry, Key, NoMemory, Production, ProductionList, Record, RecordId,
-    RowName, Seq, State, Timer,
+    CallList, Effects, Entry, Key, NoMemory, Production, ProductionList, Record, RecordId, RowName,
+    Seq, State, Timer,
 };
 use run_history::{Case, History};
 use std::alloc::Global;
-use topology::Topology;
+use std::process::Abort;
 
 // The lines of the two windows, which the entries 11 and 12 close.
 const LINES: &[u8] =
@@ -171,69 +171,6 @@ fn history(alloc: Global) -> Result<History, NoMemory>
     Ok(history)
 }
 
-// A case of its topology, whose event file is of no matter here.
-fn case(alloc: Global) -> Result<Case, NoMemory>
-    ensures { IfOk result (λ case. case.topology ≡ one_count 60) }
-{
-    let mut all = ItemsList::new(alloc);
-    all.push(Items::new(alloc))?;
-    Case::of(alloc, Topology::one_count(alloc, 60)?, all)
-}
-
-// A sink that takes 8 bytes a call and fails at this one.
-fn failing(alloc: Global, call: u64) -> Result<MemSink, NoMemory> {
-    let mut failing = CallList::new(alloc);
-    failing.push(call)?;
-    Ok(MemSink::of(alloc, 8, failing, CallList::new(alloc)))
-}
-
-// The history is pumped, and once more where the sink failed; first all is written again where the
-// outlet goes back.
-fn pump(
-    alloc: Global,
-    case: &Case,
-    history: &History,
-    goes_back: bool,
-    out: &mut MemSink,
-) -> Result<(), SinkFault>
-    requires { IsPrintable case.now.topology history.now }
-{
-    let mut outlet = Outlet::new(alloc);
-    if outlet.pump(alloc, case, history, out).is_ok() {
-        return Ok(());
-    }
-    if goes_back {
-        outlet.back(alloc);
-    }
-    outlet.pump(alloc, case, history, out)?;
-    Ok(())
-}
-
-// Whether these are the two lines, without their LF.
-fn are_lines(lines: &[Bytes]) -> bool {
-    let mut rest = LINES;
-    for line in lines {
-        let line = line.as_slice();
-        if rest.len() <= line.len() || &rest[..line.len()] != line || rest[line.len()] != b'\n' {
-            return false;
-        }
-        rest = &rest[line.len() + 1..];
-    }
-    rest.is_empty()
-}
-
-// Whether a text collects to the two lines, beside so many others.
-fn collects(alloc: Global, text: &[u8], others: u32) -> Result<bool, NoMemory> {
-    if text.len() >= MOST {
-        return Err(NoMemory);
-    }
-    match collect(alloc, text) {
-        Ok(all) => Ok(all.other == others && are_lines(all.lines.as_slice())),
-        Err(CollectRefusal::NoMemory) => Err(NoMemory),
-        Err(_) => Ok(false),
-    }
-}
-
 // At which call the sink fails, and how many lines of the text are then cut off: a line takes 12
 // calls, and one that fails before the first byte of a line cuts nothing.
 const CALLS: &[(u64, u32)] = &[
@@ -264,96 +201,128 @@ const CALLS: &[(u64, u32)] = &[
     (24, 0),
 ];
 
-// The sink that fails at this call, once all is pumped into it.
+// The history is pumped, and once more where the sink failed; first all is written again where the
+// outlet goes back.
+fn pump(
+    rt: &impl Abort,
+    alloc: Global,
+    case: &Case,
+    history: &History,
+    goes_back: bool,
+    out: &mut MemSink,
+)
+    requires { IsPrintable case.now.topology history.now }
+{
+    let mut outlet = Outlet::new(alloc);
+    if outlet.pump(alloc, case, history, out).is_err() {
+        if goes_back {
+            outlet.back(alloc);
+        }
+        made(rt, outlet.pump(alloc, case, history, out));
+    }
+    drop(outlet);
+}
+
+// The sink that takes 8 bytes a call and fails at this one, once all is pumped into it.
 fn sink_after(
+    rt: &impl Abort,
     alloc: Global,
     case: &Case,
     history: &History,
     goes_back: bool,
     call: u64,
-) -> Result<MemSink, NoMemory>
+) -> MemSink
     requires { IsPrintable case.now.topology history.now }
 {
-    let mut out = failing(alloc, call)?;
-    match pump(alloc, case, history, goes_back, &mut out) {
-        Ok(()) => Ok(out),
-        Err(_) => Err(NoMemory),
-    }
+    let mut failing = CallList::new(alloc);
+    made(rt, failing.push(call));
+    let mut out = MemSink::of(alloc, 8, failing, CallList::new(alloc));
+    pump(rt, alloc, case, history, goes_back, &mut out);
+    out
 }
 
-// Whether the text collects to the two lines where the sink fails at this call.
+// Whether the text collects to the two lines, beside so many others, where the sink fails at this call.
 fn collects_after(
+    rt: &impl Abort,
     alloc: Global,
     case: &Case,
     history: &History,
     goes_back: bool,
     call: u64,
     others: u32,
-) -> Result<bool, NoMemory>
+) -> bool
     requires { IsPrintable case.now.topology history.now }
 {
-    let out = sink_after(alloc, case, history, goes_back, call)?;
-    collects(alloc, out.text(), others)
+    let out = sink_after(rt, alloc, case, history, goes_back, call);
+    let told = collected(alloc, out.text(), LINES);
+    drop(out);
+    told == (true, others, 0, 0)
 }
 
 // Whether it does so for each call.
 fn each_collects(
+    rt: &impl Abort,
     alloc: Global,
     case: &Case,
     history: &History,
     goes_back: bool,
-) -> Result<bool, NoMemory>
+) -> bool
     requires { IsPrintable case.now.topology history.now }
 {
     for (call, others) in CALLS {
-        if !collects_after(alloc, case, history, goes_back, *call, *others)? {
-            return Ok(false);
+        if !collects_after(rt, alloc, case, history, goes_back, *call, *others) {
+            return false;
         }
     }
-    Ok(true)
+    true
 }
 
 // Whether the two lines are written as they are, by a sink that does not fail.
-fn is_written(alloc: Global, case: &Case, history: &History) -> Result<bool, NoMemory>
+fn is_written(rt: &impl Abort, alloc: Global, case: &Case, history: &History) -> bool
     requires { IsPrintable case.now.topology history.now }
 {
-    let out = sink_after(alloc, case, history, false, u64::MAX)?;
-    Ok(out.text() == LINES)
+    let out = sink_after(rt, alloc, case, history, false, u64::MAX);
+    let is = out.text() == LINES;
+    drop(out);
+    is
 }
 
-// What is shown of the history, by number.
-fn holds_of(alloc: Global, case: &Case, history: &History, at: u32) -> Result<bool, NoMemory>
-    requires { IsPrintable case.now.topology history.now }
-{
-    match at {
-        0 => is_written(alloc, case, history),
-        1 => each_collects(alloc, case, history, false),
-        _ => each_collects(alloc, case, history, true),
-    }
+// What is shown of the history.
+enum Shown {
+    // Its lines are written.
+    Written,
+    // They are collected once it was pumped again, and first taken back or not.
+    Again(bool),
 }
 
-// The same, in a case of its topology.
-fn holds_in(alloc: Global, case: &Case, at: u32) -> Result<bool, NoMemory>
-    requires { case.now.topology ≡ one_count 60 }
-{
-    let history = history(alloc)?;
-    holds_of(alloc, case, &history, at)
-}
-
-// The same, with the one case.
-fn holds(alloc: Global, at: u32) -> Result<bool, NoMemory> {
-    let case = case(alloc)?;
-    holds_in(alloc, &case, at)
+// Whether it is so, with a case of its topology, whose event file is of no matter here.
+fn holds(rt: &impl Abort, alloc: Global, shown: &Shown) -> bool {
+    let case = two_line_case(rt, alloc);
+    let history = made(rt, history(alloc));
+    let holds = match shown {
+        Shown::Written => is_written(rt, alloc, &case, &history),
+        Shown::Again(goes_back) => each_collects(rt, alloc, &case, &history, *goes_back),
+    };
+    drop(history);
+    drop(case);
+    holds
 }
 
 #[test]
 fn live_ids(rt: HostRuntime) {
-    assert!(rt; made(&rt, holds(rt.alloc(), 0)));
+    must(
+        &rt,
+        holds(&rt, rt.alloc(), &Shown::Written),
+        "the two lines",
+    );
 }
 
 #[test]
 fn a_text_that_was_cut_at_each_call_in_turn_collects_to_all(rt: HostRuntime) {
-    for (at, name) in &[(1, "pumped again"), (2, "taken back and pumped again")] {
-        must(&rt, made(&rt, holds(rt.alloc(), *at)), *name);
+    for (name, shown) in &[
+        ("pumped again", Shown::Again(false)),
+        ("taken back and pumped again", Shown::Again(true)),
+    ] {
+        must(&rt, holds(&rt, rt.alloc(), shown), *name);
     }
 }

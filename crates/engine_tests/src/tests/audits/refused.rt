@@ -1,10 +1,10 @@
 //! Texts that are refused, each for its first wrong line.
-use super::cases::{Answer, answer_of, is_same};
+use super::cases::{Answer, answer_of};
 use super::traces::MARKED;
 use crate::tests::text_cases::TWO;
 use crate::tests::{made, must};
-use mw_types::NoMemory;
 use std::alloc::Global;
+use std::process::Abort;
 
 // What is written in the place of what, where it first stands, and what is answered then.
 type Changed = (&'static str, &'static str, Answer);
@@ -92,24 +92,14 @@ static CUT: [(&str, &str, Answer); 7] = [
     ),
 ];
 
-// The answer, once a text stands in the place of another.
-fn changed(alloc: Global, old: &str, new: &str) -> Result<Answer, NoMemory> {
+// The answer, once a text stands in the place of another, or of that and all behind it.
+fn changed(rt: &impl Abort, alloc: Global, old: &str, new: &str, goes_on: bool) -> Answer {
     let Some((front, back)) = MARKED.split_once(old) else {
-        return Ok((0, "not there"));
+        return (0, "not there");
     };
-    let text = format!(in alloc; "{front}{new}{back}")?;
-    let answer = answer_of(alloc, TWO, text.as_str());
-    drop(text);
-    answer
-}
-
-// The answer, once the text ends before this and goes on with another.
-fn cut(alloc: Global, end: &str, more: &str) -> Result<Answer, NoMemory> {
-    let Some((front, _)) = MARKED.split_once(end) else {
-        return Ok((0, "not there"));
-    };
-    let text = format!(in alloc; "{front}{more}")?;
-    let answer = answer_of(alloc, TWO, text.as_str());
+    let back = if goes_on { back } else { "" };
+    let text = made(rt, format!(in alloc; "{front}{new}{back}"));
+    let answer = answer_of(rt, alloc, TWO, text.as_str());
     drop(text);
     answer
 }
@@ -117,15 +107,15 @@ fn cut(alloc: Global, end: &str, more: &str) -> Result<Answer, NoMemory> {
 #[test]
 fn audit_refuses(rt: HostRuntime) {
     for (old, new, answer) in &CHANGED {
-        let answered = made(&rt, changed(rt.alloc(), old, new));
-        must(&rt, is_same(answered, *answer), *new);
+        let answered = changed(&rt, rt.alloc(), old, new, true);
+        must(&rt, answered == *answer, *new);
     }
 }
 
 #[test]
 fn a_text_that_ends_is_refused(rt: HostRuntime) {
     for (end, more, answer) in &CUT {
-        let answered = made(&rt, cut(rt.alloc(), end, more));
-        must(&rt, is_same(answered, *answer), *end);
+        let answered = changed(&rt, rt.alloc(), end, more, false);
+        must(&rt, answered == *answer, *end);
     }
 }

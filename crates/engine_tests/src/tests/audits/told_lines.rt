@@ -1,42 +1,29 @@
 //! What lines tell of choices, and how a text is cut into lines.
 use crate::tests::{made, must};
-use mw_types::NoMemory;
 use std::alloc::Global;
+use std::process::Abort;
 use trace_lines::{Choice, begins_entry, choice_at, next_line};
 
 // What a line tells: what is done, and two numbers that are chosen.
 type Told = (&'static str, u64, u64);
 
-// What a choice is: a worker and an interval, an injector, an id, a part and a mark, a part and an
-// id's commit number, or a part and a floor.
-fn told_of(choice: &Choice) -> Told {
-    match choice {
-        Choice::Claim { worker, interval } => ("claim", u64::from(*worker), u64::from(*interval)),
-        Choice::Inject { part } => ("inject", u64::from(*part), 0),
-        Choice::Handle { id } => ("handle", id.commit, u64::from(id.index)),
-        Choice::Fire { row, mark } => ("fire", u64::from(row.part), *mark),
-        Choice::Ack { row, id } => ("ack", u64::from(row.part), id.commit),
-        Choice::Purge { row, floor } => ("purge", u64::from(row.part), *floor),
-    }
-}
-
-// What is told where there is a choice, and nothing where there is none.
-fn told_by(choice: &Option<Choice>) -> Told {
-    match choice {
-        Some(choice) => told_of(choice),
+// What the choice of a line is: a worker and an interval, an injector, an id, a part and a mark, a part and an
+// id's commit number, or a part and a floor; and nothing where there is none.
+fn told(rt: &impl Abort, alloc: Global, line: &str) -> Told {
+    let choice = made(rt, choice_at(alloc, line.as_bytes()));
+    let told = match &choice {
+        Some(Choice::Claim { worker, interval }) => {
+            ("claim", u64::from(*worker), u64::from(*interval))
+        }
+        Some(Choice::Inject { part }) => ("inject", u64::from(*part), 0),
+        Some(Choice::Handle { id }) => ("handle", id.commit, u64::from(id.index)),
+        Some(Choice::Fire { row, mark }) => ("fire", u64::from(row.part), *mark),
+        Some(Choice::Ack { row, id }) => ("ack", u64::from(row.part), id.commit),
+        Some(Choice::Purge { row, floor }) => ("purge", u64::from(row.part), *floor),
         None => ("nothing", 0, 0),
-    }
-}
-
-// What a line tells.
-fn told(alloc: Global, line: &str) -> Result<Told, NoMemory> {
-    let choice = choice_at(alloc, line.as_bytes())?;
-    Ok(told_by(&choice))
-}
-
-// Whether two lines tell the same.
-fn is_same(one: Told, other: Told) -> bool {
-    one.0 == other.0 && one.1 == other.1 && one.2 == other.2
+    };
+    drop(choice);
+    told
 }
 
 // A line of each kind of the worked row, and lines that tell nothing.
@@ -111,11 +98,7 @@ fn cut(text: &[u8]) -> [(usize, bool); 6] {
 #[test]
 fn lines_tell_choices(rt: HostRuntime) {
     for (line, choice) in &LINES {
-        must(
-            &rt,
-            is_same(made(&rt, told(rt.alloc(), line)), *choice),
-            *line,
-        );
+        must(&rt, told(&rt, rt.alloc(), line) == *choice, *line);
     }
 }
 

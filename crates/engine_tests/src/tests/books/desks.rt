@@ -5,10 +5,11 @@ ghost use Rattle.run_history.specs.Legal.{MayClaim};
 ghost use Rattle.worked_examples.specs.Rising.{rise_case};
 ghost use Rattle.engine_tests.specs.TestSeats.{IsAtRest};
 
-use super::pairs::{Pair, over_two_seats};
-use super::seats::{Tried, are_tried};
+use super::pairs::Pair;
+use super::seats::Tried;
+use super::tables::{Table, try_all};
 use crate::tests::must;
-use book::{Claimed, Desk, DeskRefusal};
+use book::{Desk, DeskRefusal};
 use row_keeper::Keeper;
 use shared_book::{Seat, Shared, SharedDesk};
 use std::alloc::Global;
@@ -21,8 +22,14 @@ const WANT: &[Tried] = &[
     Tried::Claimed { seq: 1 },
 ];
 
-// What came of a claim through a desk.
-fn of_claim(claimed: Result<Claimed, DeskRefusal>) -> Tried {
+// What came of a claim through any desk.
+fn claim_through<D: Desk>(desk: &mut D, alloc: Global, worker: u32, interval: u32) -> Tried
+    requires may { MayClaim (D.view desk.old).case worker interval }
+    ensures case { (D.view desk.new).case ≡ (D.view desk.old).case }
+    ensures loan { D.loan desk.new ≡ D.loan desk.old }
+    ensures home { D.home desk.new ≡ D.home desk.old }
+{
+    let claimed = desk.claim(alloc, worker, interval);
     let tried = match &claimed {
         Ok(claimed) => Tried::Claimed {
             seq: claimed.lease.seq(),
@@ -32,16 +39,6 @@ fn of_claim(claimed: Result<Claimed, DeskRefusal>) -> Tried {
     };
     drop(claimed);
     tried
-}
-
-// A claim through any desk.
-fn claim_through<D: Desk>(desk: &mut D, alloc: Global, worker: u32, interval: u32) -> Tried
-    requires may { MayClaim (D.view desk.old).case worker interval }
-    ensures case { (D.view desk.new).case ≡ (D.view desk.old).case }
-    ensures loan { D.loan desk.new ≡ D.loan desk.old }
-    ensures home { D.home desk.new ≡ D.home desk.old }
-{
-    of_claim(desk.claim(alloc, worker, interval))
 }
 
 // The floor behind a claim: the claims are the history, so it is above the last, and 0 where there is none.
@@ -158,10 +155,10 @@ pub(crate) fn claim_at_desks<K: Keeper>(
     notes(shared, one, other);
     let second = desk_claim(rt, alloc, shared, one, 1);
     let tried = [beside, first, second];
-    must(rt, are_tried(&tried, WANT), "what comes of each claim");
+    must(rt, tried.as_slice() == WANT, "what comes of each claim");
 }
 
 #[test]
 fn desk_answers_busy(rt: HostRuntime) {
-    over_two_seats(&rt, rt.alloc(), Pair::Desks, 2);
+    try_all(&rt, rt.alloc(), Table::Seats(Pair::Desks, 2));
 }

@@ -2,8 +2,7 @@
 ghost use Rattle.std.specs.Prelude.{◌≡◌, ◌∷◌, []};
 ghost use Rattle.mw_types.specs.Bounds.{IsWithin};
 ghost use Rattle.mw_types.specs.declared.state.State.TheVariants.{Count};
-ghost use Rattle.worked_examples.specs.First.{closes, counts, end_of, record_at, row_a, window};
-ghost use Rattle.worked_examples.specs.Drained.{injector_row};
+ghost use Rattle.worked_examples.specs.First.{closes, counts, end_of, row_a, window};
 ghost use Rattle.book.specs.declared.proposal.Proposal.TheVariants as proposals;
 ghost use Rattle.worked_examples.specs.Rising.{sent_delivery};
 ghost use Rattle.engine_tests.specs.TestBooks.{first_lease};
@@ -19,16 +18,6 @@ use mw_types::{
 use std::alloc::Global;
 use std::process::Abort;
 
-// The name of the injector's row.
-fn injector_row(alloc: Global) -> RowName
-    ensures { result ≡ injector_row }
-{
-    RowName {
-        part: 0,
-        key: Key::none(alloc),
-    }
-}
-
 // The name of the row of the key a.
 pub(crate) fn row_a(rt: &impl Abort, alloc: Global) -> RowName
     ensures { result ≡ row_a }
@@ -36,32 +25,6 @@ pub(crate) fn row_a(rt: &impl Abort, alloc: Global) -> RowName
     RowName {
         part: 1,
         key: key_a(rt, alloc),
-    }
-}
-
-// The record of the first line.
-fn sent_record(rt: &impl Abort, alloc: Global) -> Record
-    ensures { result ≡ record_at 10 }
-{
-    Record {
-        key: key_a(rt, alloc),
-        stamp: 10,
-        value: 1,
-        late: false,
-    }
-}
-
-// Its delivery.
-fn sent_delivery(rt: &impl Abort, alloc: Global) -> Delivery
-    ensures { result ≡ sent_delivery }
-{
-    Delivery {
-        id: RecordId {
-            commit: 2,
-            index: 0,
-        },
-        to: row_a(rt, alloc),
-        item: sent_record(rt, alloc),
     }
 }
 
@@ -86,40 +49,27 @@ fn one_open(rt: &impl Abort, alloc: Global) -> State
     State::Count { late: 0, windows }
 }
 
-// The timer of the window to 60.
-fn end_of_window() -> Timer
-    ensures { result ≡ end_of 60 }
-{
-    Timer {
-        tag: 0,
-        time: 60,
-        late: false,
-    }
-}
-
-// The timer of the window alone.
-fn one_timer(rt: &impl Abort, alloc: Global) -> TimerList
-    ensures { result ≡ end_of 60 ∷ [] }
-{
-    let mut timers = TimerList::new(alloc);
-    made(rt, timers.push(end_of_window()));
-    timers
-}
-
-// What the record at 10 leaves.
+// What the record at 10 leaves: the window is open, and its timer is set.
 fn counts(rt: &impl Abort, alloc: Global) -> Effects
     ensures { result ≡ counts (window 60 1 ∷ []) 60 }
 {
+    let mut timers = TimerList::new(alloc);
+    let timer = Timer {
+        tag: 0,
+        time: 60,
+        late: false,
+    };
+    made(rt, timers.push(timer));
     Effects {
         state: one_open(rt, alloc),
-        timers: one_timer(rt, alloc),
+        timers,
         productions: ProductionList::new(alloc),
     }
 }
 
-// What is produced of the window.
-fn one_production(rt: &impl Abort, alloc: Global) -> ProductionList
-    ensures { result ≡ (closes [] 60 1).productions }
+// What the timer of the window leaves, and what is produced of the window.
+fn closes(rt: &impl Abort, alloc: Global) -> Effects
+    ensures { result ≡ closes [] 60 1 }
 {
     let mut productions = ProductionList::new(alloc);
     let count = Production {
@@ -128,26 +78,32 @@ fn one_production(rt: &impl Abort, alloc: Global) -> ProductionList
         value: 1,
     };
     made(rt, productions.push(count));
-    productions
-}
-
-// What the timer of the window leaves.
-fn closes(rt: &impl Abort, alloc: Global) -> Effects
-    ensures { result ≡ closes [] 60 1 }
-{
     Effects {
         state: none_open(alloc),
         timers: TimerList::new(alloc),
-        productions: one_production(rt, alloc),
+        productions,
     }
 }
 
-// That the record at 10 was handled.
+// That the delivery of the first line, whose record is at 10, was handled.
 fn handling(rt: &impl Abort, alloc: Global) -> Proposal
     ensures { result ≡ proposals.Handle sent_delivery (counts (window 60 1 ∷ []) 60) }
 {
+    let delivery = Delivery {
+        id: RecordId {
+            commit: 2,
+            index: 0,
+        },
+        to: row_a(rt, alloc),
+        item: Record {
+            key: key_a(rt, alloc),
+            stamp: 10,
+            value: 1,
+            late: false,
+        },
+    };
     Proposal::Handle {
-        delivery: sent_delivery(rt, alloc),
+        delivery,
         effects: counts(rt, alloc),
     }
 }
@@ -157,7 +113,11 @@ fn firing(rt: &impl Abort, alloc: Global) -> Proposal
     ensures { result ≡ proposals.Fire (end_of 60) 60 (closes [] 60 1) }
 {
     Proposal::Fire {
-        timer: end_of_window(),
+        timer: Timer {
+            tag: 0,
+            time: 60,
+            late: false,
+        },
         mark: 60,
         effects: closes(rt, alloc),
     }
@@ -171,7 +131,10 @@ pub(crate) fn hands(rt: &impl Abort, alloc: Global, source: Lease, count: Lease)
     Hands {
         source,
         count,
-        injector: injector_row(alloc),
+        injector: RowName {
+            part: 0,
+            key: Key::none(alloc),
+        },
         a: row_a(rt, alloc),
         injecting: Proposal::Inject { line: 0 },
         handling: handling(rt, alloc),

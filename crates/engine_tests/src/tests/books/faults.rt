@@ -4,27 +4,26 @@ ghost use Rattle.std.specs.Prelude.{◌≡◌, ◌<◌, ◌∷◌, []};
 ghost use Rattle.worked_examples.specs.Rising.{rise_case};
 ghost use Rattle.engine_tests.specs.TestSeats.{IsAtRest};
 
-use super::seats::{Tried, are_tried, claim_with};
+use super::seats::{Tried, claim_with};
 use super::starts::shared_among;
+use super::tables::{Table, try_all};
+use crate::tests::entries::{Told, are_told};
 use crate::tests::keepers::in_memory;
 use crate::tests::must;
-use crate::tests::two_lines::two_line_case;
-use book::Book;
 use row_keeper::Keeper;
-use run_history::{Case, EntryRef, History};
+use run_history::Case;
 use shared_book::{Seat, Shared};
 use std::alloc::Global;
 use std::process::Abort;
 
 // Four claims, of the workers 0 to 3: the call of the keeper that fails, where each claim is one and the start was
-// the first, what came of each claim in the first turn and in the second, and the workers of the entries that are
-// left.
+// the first, what came of each claim in the first turn and in the second, and the entries that are left.
 #[derive(Clone, Copy)]
-struct Fault {
+pub(crate) struct Fault {
     failing: &'static [u64],
     first: &'static [Tried],
     second: &'static [Tried],
-    left: &'static [u32],
+    left: &'static [Told],
 }
 
 const FAILED: Tried = Tried::KeeperFault;
@@ -41,25 +40,25 @@ static FAULTS: [Fault; 4] = [
         failing: &[1],
         first: &[FAILED, FIRST],
         second: &[SECOND, THIRD],
-        left: &[1, 2, 3],
+        left: &[Told::Claim(1, 1), Told::Claim(2, 0), Told::Claim(3, 1)],
     },
     Fault {
         failing: &[2],
         first: &[FIRST, FAILED],
         second: &[SECOND, THIRD],
-        left: &[0, 2, 3],
+        left: &[Told::Claim(0, 0), Told::Claim(2, 0), Told::Claim(3, 1)],
     },
     Fault {
         failing: &[3],
         first: &[FIRST, SECOND],
         second: &[FAILED, THIRD],
-        left: &[0, 1, 3],
+        left: &[Told::Claim(0, 0), Told::Claim(1, 1), Told::Claim(3, 1)],
     },
     Fault {
         failing: &[4],
         first: &[FIRST, SECOND],
         second: &[THIRD, FAILED],
-        left: &[0, 1, 2],
+        left: &[Told::Claim(0, 0), Told::Claim(1, 1), Told::Claim(2, 0)],
     },
 ];
 
@@ -92,32 +91,8 @@ fn claim_twice<K: Keeper>(
     }
 }
 
-// Whether an entry is the claim of a worker, of the interval that is its own.
-fn is_claim_of(entry: Option<EntryRef<'_>>, of: u32) -> bool {
-    match entry {
-        Some(EntryRef::Claim { worker, interval }) => worker == of && interval == of % 2,
-        _ => false,
-    }
-}
-
-// Whether the entries of a history are claims of these workers.
-fn are_left(history: &History, left: &[u32]) -> bool {
-    let mut are = history.len() == left.len();
-    for (number, worker) in left.iter().enumerate() {
-        are = are && is_claim_of(history.get(number), *worker);
-    }
-    are
-}
-
-// Whether the history of a book has the claims of these workers, which is let go here.
-fn has_left<K: Keeper>(book: Book<'_, K>, left: &[u32]) -> bool {
-    let has = are_left(book.history(), left);
-    drop(book);
-    has
-}
-
 // Two turns with two claims each, over a keeper that fails at one of them.
-fn two_turns(rt: &impl Abort, alloc: Global, case: &Case, fault: &Fault)
+pub(crate) fn two_turns(rt: &impl Abort, alloc: Global, case: &Case, fault: &Fault)
     requires case { case.now ≡ rise_case }
 {
     let keeper = in_memory(rt, alloc, fault.failing);
@@ -126,20 +101,13 @@ fn two_turns(rt: &impl Abort, alloc: Global, case: &Case, fault: &Fault)
     let first = claim_twice(alloc, &shared, &mut seat, 0);
     let second = claim_twice(alloc, &shared, &mut seat, 2);
     let book = shared.close(seat);
-    let is_so = are_tried(&first, fault.first) && are_tried(&second, fault.second);
-    must(rt, has_left(book, fault.left) && is_so, "what is left");
-}
-
-// Each fault is as told.
-fn each_fault(rt: &impl Abort, alloc: Global) {
-    let case = two_line_case(rt, alloc);
-    for fault in &FAULTS {
-        two_turns(rt, alloc, &case, fault);
-    }
-    drop(case);
+    are_told(rt, book.history(), fault.left);
+    drop(book);
+    let is_so = first.as_slice() == fault.first && second.as_slice() == fault.second;
+    must(rt, is_so, "what comes of each claim");
 }
 
 #[test]
 fn keeper_that_fails_under_a_turn(rt: HostRuntime) {
-    each_fault(&rt, rt.alloc());
+    try_all(&rt, rt.alloc(), Table::Faults(&FAULTS));
 }

@@ -23,19 +23,9 @@ fn are_own(entries: &[Entry], of: u32, answered: &[u64]) -> bool {
     are && next == answered.len()
 }
 
-// Whether a worker was answered so many numbers, which are those of its claims.
-fn has_share(entries: &[Entry], worker: u32, answered: Option<&Vec<u64>>, share: u32) -> bool {
-    match answered {
-        Some(numbers) => {
-            numbers.len() == share as usize && are_own(entries, worker, numbers.as_slice())
-        }
-        None => share == 0,
-    }
-}
-
-// The history has 10,000 entries, and of each worker its claims. So each entry is a claim of a worker
-// below 4 and of one of the two intervals; such a claim may follow any history, and is under no lease,
-// so the history is lawful.
+// The history has 10,000 entries, and of each worker its claims, as many as its share. So each entry is a claim of a
+// worker below 4 and of one of the two intervals; such a claim may follow any history, and is under no lease, so the
+// history is lawful.
 pub(crate) fn expect_shares(
     rt: &impl Abort,
     entries: &[Entry],
@@ -45,7 +35,13 @@ pub(crate) fn expect_shares(
     must(rt, entries.len() == 10_000, "how many entries");
     for worker in 0..4u32 {
         let at = worker as usize;
-        let has = has_share(entries, worker, answered.get(at), shares[at]);
+        let share = shares[at];
+        let has = match answered.get(at) {
+            Some(numbers) => {
+                numbers.len() == share as usize && are_own(entries, worker, numbers.as_slice())
+            }
+            None => share == 0,
+        };
         must(rt, has, worker);
     }
 }

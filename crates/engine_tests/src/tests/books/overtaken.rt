@@ -6,9 +6,10 @@ ghost use Rattle.engine_tests.specs.TestBooks.{HasRisen, IsOvertaken, later_leas
 
 use super::example::none_open;
 use super::hands::Hands;
-use super::plays::{Kept, Play, Setting, play_all};
+use super::plays::{Kept, Play, Setting};
 use super::refused;
-use super::trials::{Trial, injected, is_as_before, lease_of, sight, stays};
+use super::tables::{Table, try_all};
+use super::trials::{Trial, injected, lease_of, sight, stays};
 use crate::tests::{made, must};
 use book::{Book, Lease, WriteRefusal, Written};
 use mw_types::END;
@@ -42,7 +43,7 @@ fn report_is_stale<K: Keeper>(rt: &impl Abort, book: &mut Book<'_, K>, hands: &H
 {
     let before = sight(book);
     let why = refused(rt, book.report(&hands.count, 3, END));
-    let is_so = why.newer == 3 && is_as_before(book, &before);
+    let is_so = why.newer == 3 && sight(book) == before;
     must(rt, is_so, "the report is stale, and nothing changes");
 }
 
@@ -92,5 +93,5 @@ static SETTINGS: [Setting; 1] = [(Kept::Sound, 8, Play::Overtake)];
 
 #[test]
 fn stale_handle(rt: HostRuntime) {
-    play_all(&rt, rt.alloc(), &SETTINGS);
+    try_all(&rt, rt.alloc(), Table::Settings(&SETTINGS));
 }

@@ -8,7 +8,6 @@ use super::starts::{entries_in, shared_among};
 use super::turns::take_turns;
 use crate::tests::keepers::in_memory;
 use crate::tests::must;
-use crate::tests::two_lines::two_line_case;
 use row_keeper::Keeper;
 use run_history::Case;
 use shared_book::{Seat, Shared};
@@ -48,7 +47,7 @@ fn act<K: Keeper>(
 }
 
 // Two seats of a book, which comes back with so many entries.
-fn two_seats(rt: &impl Abort, alloc: Global, case: &Case, pair: Pair, entries: usize)
+pub(crate) fn two_seats(rt: &impl Abort, alloc: Global, case: &Case, pair: Pair, entries: usize)
     requires case { case.now ≡ rise_case }
 {
     let (shared, seat) = shared_among(rt, alloc, case, in_memory(rt, alloc, &[]), 8, 2);
@@ -58,11 +57,4 @@ fn two_seats(rt: &impl Abort, alloc: Global, case: &Case, pair: Pair, entries: u
     shared.join(&mut other, one);
     let book = shared.close(other);
     must(rt, entries_in(book) == entries, "how many entries");
-}
-
-// The same, over the case of the example.
-pub(crate) fn over_two_seats(rt: &impl Abort, alloc: Global, pair: Pair, entries: usize) {
-    let case = two_line_case(rt, alloc);
-    two_seats(rt, alloc, &case, pair, entries);
-    drop(case);
 }

@@ -6,10 +6,11 @@ ghost use Rattle.shared_book.specs.SharedDesks.{shared_home, shared_view};
 ghost use Rattle.engine_tests.specs.TestSeats.{GoesOn, IsAtRest};
 
 use super::starts::shared_among;
+use super::tables::{Table, try_all};
+use super::trials::lease_of;
 use crate::tests::keepers::blind;
 use crate::tests::must;
-use crate::tests::two_lines::two_line_case;
-use book::{Book, Claimed, Desk, DeskRefusal, Lease};
+use book::{Desk, DeskRefusal, Lease};
 use row_keeper::Keeper;
 use run_history::Case;
 use shared_book::{Seat, Shared, SharedDesk};
@@ -23,7 +24,7 @@ const RAISES: u64 = 1000;
 
 // The interval that each of two threads claims, and the injector's mark at the end.
 #[derive(Clone, Copy)]
-struct Row {
+pub(crate) struct Row {
     one: u32,
     other: u32,
     source: u64,
@@ -71,22 +72,6 @@ fn loaded(loads: Loads, interval: u32, mark: u64) -> Loads {
     }
 }
 
-// The lease that a claim gave.
-fn lease_in(claimed: Claimed) -> Lease
-    ensures { result ≡ claimed.lease }
-{
-    let Claimed { lease, rows } = claimed;
-    drop(rows);
-    lease
-}
-
-// Whether a claim was refused since another had the turn.
-fn is_busy(why: DeskRefusal) -> bool {
-    let is = matches!(&why, DeskRefusal::Busy { .. });
-    drop(why);
-    is
-}
-
 // One try to claim the interval, and no lease where another had the turn. The test ends where it is refused.
 fn lease_once<K: Keeper>(
     rt: &impl Abort,
@@ -104,9 +89,11 @@ fn lease_once<K: Keeper>(
     ensures home { shared_home desk.new.seat.now.place ≡ shared_home desk.old.seat.now.place }
 {
     match desk.claim(alloc, worker, interval) {
-        Ok(claimed) => Some(lease_in(claimed)),
+        Ok(claimed) => Some(lease_of(rt, claimed)),
         Err(why) => {
-            must(rt, is_busy(why), "a claim waits for the turn alone");
+            let is_busy = matches!(&why, DeskRefusal::Busy { .. });
+            drop(why);
+            must(rt, is_busy, "a claim waits for the turn alone");
             None
         }
     }
@@ -351,26 +338,18 @@ fn in_threads<K: Keeper + Send, R: Threads + Wait + Abort + Sync>(
     both
 }
 
-// Whether a book has two claims and these marks. It is let go here.
-fn has_marks<K: Keeper>(book: Book<'_, K>, marks: &[u64]) -> bool {
-    let has = book.history().len() == 2 && book.marks() == marks;
-    drop(book);
-    has
-}
-
-// Whether all that two threads loaded is as it has to be, and a book has the injector's mark and, of the count's
-// interval, the greatest to which it was raised.
-fn are_raised<K: Keeper>(book: Book<'_, K>, source: u64, first: Loads, second: Loads) -> bool {
-    let count = first.count.max(second.count);
-    has_marks(book, &[source, count]) && first.is_sound && second.is_sound
-}
-
-// Two threads over the seats of a book: all that they loaded is as it has to be, and the book comes back with the
-// marks to which they raised them.
-fn two_threads<R: Threads + Wait + Abort + Sync>(rt: &R, alloc: Global, case: &Case, row: Row)
+// Two threads over the seats of a book: all that they loaded is as it has to be, and the book comes back with two
+// claims, the injector's mark and, of the count's interval, the greatest to which it was raised.
+pub(crate) fn two_threads<R: Threads + Wait + Abort + Sync>(
+    rt: &R,
+    alloc: Global,
+    case: &Case,
+    row: Row,
+)
     requires case { case.now ≡ rise_case }
 {
-    let (shared, seat) = shared_among(rt, alloc, case, blind(alloc), 8, 2);
+    let keeper = blind(rt, alloc, 7, &[]);
+    let (shared, seat) = shared_among(rt, alloc, case, keeper, 8, 2);
     let mut other = seat;
     let one = shared.deal(&mut other);
     let Joined {
@@ -379,8 +358,10 @@ fn two_threads<R: Threads + Wait + Abort + Sync>(rt: &R, alloc: Global, case: &C
         second,
     } = in_threads(rt, alloc, &shared, one, other, row.one, row.other);
     let book = shared.close(seat);
-    let are = are_raised(book, row.source, first, second);
-    must(rt, are, row.source);
+    let marks = [row.source, first.count.max(second.count)];
+    let has = book.history().len() == 2 && book.marks() == marks.as_slice();
+    drop(book);
+    must(rt, has && first.is_sound && second.is_sound, row.source);
 }
 
 // Each raises the mark of its own interval; both raise the injector's, where the lease that was claimed first is
@@ -409,16 +390,7 @@ const ROWS: [Row; 4] = [
     },
 ];
 
-// The threads of each row.
-fn each_row<R: Threads + Wait + Abort + Sync>(rt: &R, alloc: Global) {
-    let case = two_line_case(rt, alloc);
-    for row in &ROWS {
-        two_threads(rt, alloc, &case, *row);
-    }
-    drop(case);
-}
-
 #[test]
 fn marks_rise_in_threads(rt: HostRuntime) {
-    each_row(&rt, rt.alloc());
+    try_all(&rt, rt.alloc(), Table::Raisers(&ROWS));
 }

@@ -6,13 +6,14 @@ ghost use Rattle.engine_tests.specs.TestBooks.{HasRisen};
 use super::calls::next;
 use super::example::row_a;
 use super::hands::Hands;
-use super::plays::{Kept, Play, Setting, play_all};
+use super::plays::{Kept, Play, Setting};
 use super::refused;
 use super::starts::started;
+use super::tables::{Table, try_all};
+use super::trials::word_of;
 use crate::tests::keepers::in_memory;
-use crate::tests::two_lines::two_line_case;
 use crate::tests::{made, must};
-use book::{Book, ClaimRefusal, Claimed, NamedRow, StartRefusal, StartWhy, WriteRefusal, Written};
+use book::{Book, ClaimRefusal, Claimed, StartRefusal, StartWhy, WriteRefusal};
 use mw_types::{Bytes, Key, RowName, State};
 use record_codec::encode_row;
 use row_keeper::{BlindKeeper, Keeper, KeptRow, MemKeeper};
@@ -21,20 +22,6 @@ use run_history::Case;
 use std::alloc::Global;
 use std::process::Abort;
 
-// Whether a claim was refused for a full history.
-fn is_claim_full(why: ClaimRefusal) -> bool {
-    let is = matches!(&why, ClaimRefusal::HistoryFull);
-    drop(why);
-    is
-}
-
-// Whether a write was refused for a full history.
-fn is_write_full(written: Result<Written, WriteRefusal>) -> bool {
-    let is = matches!(&written, Err(WriteRefusal::HistoryFull));
-    drop(written);
-    is
-}
-
 // Whether no line is injected into a full history.
 fn is_inject_full<K: Keeper>(alloc: Global, book: &mut Book<'_, K>, hands: &Hands) -> bool
     requires risen { HasRisen 2 book.old }
@@ -42,14 +29,16 @@ fn is_inject_full<K: Keeper>(alloc: Global, book: &mut Book<'_, K>, hands: &Hand
     let fresh = Row::new(alloc, State::Injector { cursor: 0 });
     let written = next(alloc, book, hands, &fresh, 2);
     drop(fresh);
-    is_write_full(written)
+    let is = matches!(&written, Err(WriteRefusal::HistoryFull));
+    drop(written);
+    is
 }
 
 // Both claims filled a history of two: no interval is claimed, and no line is injected.
 pub(crate) fn fill<K: Keeper>(rt: &impl Abort, alloc: Global, book: &mut Book<'_, K>, hands: &Hands)
     requires risen { HasRisen 2 book.old }
 {
-    let is_claim_full = is_claim_full(refused(rt, book.claim(alloc, 2, 0)));
+    let is_claim_full = word_of(refused(rt, book.claim(alloc, 2, 0))) == "full";
     let is_inject_full = is_inject_full(alloc, book, hands);
     let is_so = is_claim_full && is_inject_full && book.history().len() == 2;
     must(rt, is_so, "no interval is claimed, and no line is injected");
@@ -59,7 +48,7 @@ static SETTINGS: [Setting; 1] = [(Kept::Sound, 2, Play::Fill)];
 
 #[test]
 fn history_full(rt: HostRuntime) {
-    play_all(&rt, rt.alloc(), &SETTINGS);
+    try_all(&rt, rt.alloc(), Table::Settings(&SETTINGS));
 }
 
 // Bytes that are no row's.
@@ -73,15 +62,12 @@ fn damaged(rt: &impl Abort, alloc: Global) -> KeptRow {
     }
 }
 
-// Whether these are of the damaged row.
-fn are_of_row_a(name: &RowName, bytes: &Bytes) -> bool {
-    name.part == 1 && name.key.text() == "a" && bytes.as_slice() == DAMAGED
-}
-
 // Whether a claim was refused for the damaged row.
 fn is_damaged(claimed: Result<Claimed, ClaimRefusal>) -> bool {
     let is = match &claimed {
-        Err(ClaimRefusal::RowDamaged { name, bytes }) => are_of_row_a(name, bytes),
+        Err(ClaimRefusal::RowDamaged { name, bytes }) => {
+            name.part == 1 && name.key.text() == "a" && bytes.as_slice() == DAMAGED
+        }
         _ => false,
     };
     drop(claimed);
@@ -124,15 +110,6 @@ fn claimed_over(
     (claimed, count)
 }
 
-// Whether a claim of the interval of the damaged row names it, and the history has the claim before it alone.
-fn is_named(rt: &impl Abort, alloc: Global, case: &Case, is_first: bool) -> bool
-    requires case { case.now ≡ rise_case }
-{
-    let (claimed, count) = claimed_over(rt, alloc, case, damaged(rt, alloc), is_first, 1);
-    let before = if is_first { 0 } else { 1 };
-    is_damaged(claimed) && count == before
-}
-
 // The injector's row before its first line, as a keeper has it.
 fn sound(rt: &impl Abort, alloc: Global) -> KeptRow {
     let row = Row::new(alloc, State::Injector { cursor: 0 });
@@ -147,27 +124,14 @@ fn sound(rt: &impl Abort, alloc: Global) -> KeptRow {
     }
 }
 
-// Whether these are one row, of the injector.
-fn are_sound(rows: &[NamedRow]) -> bool {
-    match rows {
-        [one] => one.name.part == 0 && matches!(one.row.state, State::Injector { cursor: 0 }),
-        _ => false,
-    }
-}
-
 // Whether a claim was answered with one row, of the injector.
 fn has_sound(claimed: Claimed) -> bool {
-    let has = are_sound(claimed.rows.as_slice());
+    let has = match claimed.rows.as_slice() {
+        [one] => one.name.part == 0 && matches!(one.row.state, State::Injector { cursor: 0 }),
+        _ => false,
+    };
     drop(claimed);
     has
-}
-
-// Whether a claim of the interval of the sound row is answered with it.
-fn is_sound(rt: &impl Abort, alloc: Global, case: &Case) -> bool
-    requires case { case.now ≡ rise_case }
-{
-    let (claimed, count) = claimed_over(rt, alloc, case, sound(rt, alloc), true, 0);
-    has_sound(made(rt, claimed)) && count == 1
 }
 
 // A keeper in memory with the damaged row.
@@ -179,35 +143,24 @@ fn with_damaged(rt: &impl Abort, alloc: Global) -> MemKeeper {
     keeper
 }
 
-// Whether a start was refused for a row of part 1.
-fn is_not_empty(why: StartWhy) -> bool {
-    let is = match &why {
-        StartWhy::NotEmpty { name, bytes } => name.part == 1 && bytes.len() == 1,
-        _ => false,
-    };
-    drop(why);
-    is
-}
-
-// How many rows a keeper in memory has.
-fn rows_in(rt: &impl Abort, alloc: Global, keeper: MemKeeper) -> usize {
-    let rows = made(rt, keeper.rows(alloc));
-    let count = rows.len();
-    drop(rows);
-    drop(keeper);
-    count
-}
-
 // Whether a start over a keeper with a row names it, and hands back the keeper with it.
 fn is_handed_back(rt: &impl Abort, alloc: Global, case: &Case) -> bool {
     let keeper = with_damaged(rt, alloc);
     let StartRefusal { why, keeper } = refused(rt, Book::start(alloc, case, keeper, 8));
-    let count = rows_in(rt, alloc, keeper);
-    is_not_empty(why) && count == 1
+    let is_named = match &why {
+        StartWhy::NotEmpty { name, bytes } => name.part == 1 && bytes.len() == 1,
+        _ => false,
+    };
+    drop(why);
+    let rows = made(rt, keeper.rows(alloc));
+    let count = rows.len();
+    drop(rows);
+    drop(keeper);
+    is_named && count == 1
 }
 
 // What is refused, or not.
-enum What {
+pub(crate) enum What {
     Named(bool),
     Sound,
     NotEmpty,
@@ -220,27 +173,28 @@ static CASES: [(&str, What); 4] = [
     ("a keeper with a row is not empty", What::NotEmpty),
 ];
 
-// Whether it is.
-fn is_as_told(rt: &impl Abort, alloc: Global, case: &Case, what: &What) -> bool
+// Whether it is. A claim of the interval of the damaged row names it, and the history has the claim before it alone; a
+// claim of the interval of the sound row is answered with that.
+pub(crate) fn is_as_told(rt: &impl Abort, alloc: Global, case: &Case, what: &What) -> bool
     requires case { case.now ≡ rise_case }
 {
     match what {
-        What::Named(is_first) => is_named(rt, alloc, case, *is_first),
-        What::Sound => is_sound(rt, alloc, case),
+        What::Named(is_first) => {
+            let row = damaged(rt, alloc);
+            let (claimed, count) = claimed_over(rt, alloc, case, row, *is_first, 1);
+            let before = if *is_first { 0 } else { 1 };
+            is_damaged(claimed) && count == before
+        }
+        What::Sound => {
+            let row = sound(rt, alloc);
+            let (claimed, count) = claimed_over(rt, alloc, case, row, true, 0);
+            has_sound(made(rt, claimed)) && count == 1
+        }
         What::NotEmpty => is_handed_back(rt, alloc, case),
     }
 }
 
-// Each case is as told.
-fn are_as_told(rt: &impl Abort, alloc: Global) {
-    let case = two_line_case(rt, alloc);
-    for (name, what) in &CASES {
-        must(rt, is_as_told(rt, alloc, &case, what), *name);
-    }
-    drop(case);
-}
-
 #[test]
 fn rows_are_claimed_or_named(rt: HostRuntime) {
-    are_as_told(&rt, rt.alloc());
+    try_all(&rt, rt.alloc(), Table::Refusals(&CASES));
 }

@@ -7,7 +7,8 @@ ghost use Rattle.engine_tests.specs.TestBooks.{HasRisen};
 use super::calls::{RECORD, report};
 use super::example::none_open;
 use super::hands::Hands;
-use super::plays::{Kept, Play, Setting, play_all};
+use super::plays::{Kept, Play, Setting};
+use super::tables::{Table, try_all};
 use super::trials::{Trial, injected, step};
 use crate::tests::must;
 use book::{Book, Stale};
@@ -97,13 +98,6 @@ fn fired<K: Keeper>(
     step(rt, trial, book, hands, counted, 5)
 }
 
-// Whether a row has forgotten all below 6.
-fn is_purged(row: Row) -> bool {
-    let is = row.floor == 6 && row.seen.is_empty();
-    drop(row);
-    is
-}
-
 // The row is purged.
 fn purged<K: Keeper>(
     rt: &impl Abort,
@@ -116,7 +110,9 @@ fn purged<K: Keeper>(
     requires closed { closed.now ≡ row_closed }
 {
     let row = step(rt, trial, book, hands, closed, 6);
-    must(rt, is_purged(row), "the row forgets what is below 6");
+    let is_purged = row.floor == 6 && row.seen.is_empty();
+    drop(row);
+    must(rt, is_purged, "the row forgets what is below 6");
 }
 
 // Worker 0 works off the first line.
@@ -149,5 +145,5 @@ static SETTINGS: [Setting; 10] = [
 
 #[test]
 fn marks_rise(rt: HostRuntime) {
-    play_all(&rt, rt.alloc(), &SETTINGS);
+    try_all(&rt, rt.alloc(), Table::Settings(&SETTINGS));
 }

@@ -4,7 +4,7 @@ ghost use Rattle.run_history.specs.Legal.{MayClaim};
 ghost use Rattle.shared_book.specs.Turns.{HasTurn, IsHere};
 ghost use Rattle.engine_tests.specs.TestSeats.{IsAtRest};
 
-use book::{ClaimRefusal, Claimed};
+use book::ClaimRefusal;
 use row_keeper::Keeper;
 use shared_book::{Seat, Shared, Turn};
 use std::alloc::Global;
@@ -24,25 +24,7 @@ pub(crate) enum Tried {
     Given,
 }
 
-// Whether this came of tries.
-pub(crate) fn are_tried(tried: &[Tried], want: &[Tried]) -> bool {
-    tried == want
-}
-
 // What came of a claim in a turn.
-fn of_claim(claimed: Result<Claimed, ClaimRefusal>) -> Tried {
-    let tried = match &claimed {
-        Ok(claimed) => Tried::Claimed {
-            seq: claimed.lease.seq(),
-        },
-        Err(ClaimRefusal::KeeperFault) => Tried::KeeperFault,
-        Err(_) => Tried::Refused,
-    };
-    drop(claimed);
-    tried
-}
-
-// A claim in a turn.
 pub(crate) fn claim_with<K: Keeper>(
     alloc: Global,
     turn: &mut Turn<'_, '_, K>,
@@ -62,7 +44,16 @@ pub(crate) fn claim_with<K: Keeper>(
         ≡ turn.old.seat.now.place.me.0.numbers }
     ensures basis { turn.new.seat.now.place.me.0.basis ≡ turn.old.seat.now.place.me.0.basis }
 {
-    of_claim(turn.claim(alloc, worker, interval))
+    let claimed = turn.claim(alloc, worker, interval);
+    let tried = match &claimed {
+        Ok(claimed) => Tried::Claimed {
+            seq: claimed.lease.seq(),
+        },
+        Err(ClaimRefusal::KeeperFault) => Tried::KeeperFault,
+        Err(_) => Tried::Refused,
+    };
+    drop(claimed);
+    tried
 }
 
 // One try for the turn, and a claim in it.

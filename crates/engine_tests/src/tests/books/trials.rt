@@ -37,30 +37,20 @@ static SIGHTS: [Sight; 6] = [
     [7, 7, 1, 60, 60],
 ];
 
-// The mark of an interval, or 7 where there is none.
-fn mark_at(marks: &[u64], at: usize) -> u64 {
-    marks.get(at).copied().unwrap_or(7)
-}
-
-// What is seen of a book now.
+// What is seen of a book now. A mark that is not there is 7.
 pub(crate) fn sight<K: Keeper>(book: &Book<'_, K>) -> Sight {
     let marks = book.marks();
-    let source = mark_at(marks, 0);
-    let count = mark_at(marks, 1);
+    let source = marks.get(0).copied().unwrap_or(7);
+    let count = marks.get(1).copied().unwrap_or(7);
     let entries = book.history().len() as u64;
     [entries, book.floor(), book.unfinished(), source, count]
-}
-
-// Whether a book looks as it did.
-pub(crate) fn is_as_before<K: Keeper>(book: &Book<'_, K>, before: &Sight) -> bool {
-    sight(book) == *before
 }
 
 // Whether a book looks as it has to after so many entries.
 fn looks_so<K: Keeper>(book: &Book<'_, K>, count: u64) -> bool {
     let at = (count as usize).wrapping_sub(2);
     match SIGHTS.get(at) {
-        Some(want) => is_as_before(book, want),
+        Some(want) => sight(book) == *want,
         None => false,
     }
 }
@@ -73,15 +63,19 @@ pub(crate) fn stays<K: Keeper>(
     why: WriteRefusal,
     want: WriteRefusal,
 ) {
-    let is_so = why == want && is_as_before(book, before);
+    let is_so = why == want && sight(book) == *before;
     must(rt, is_so, "it is refused, and nothing changes");
 }
 
-// Whether a claim was refused since the keeper failed.
-fn is_fault(why: ClaimRefusal) -> bool {
-    let is = matches!(&why, ClaimRefusal::KeeperFault);
+// Why a claim was refused, in a word.
+pub(crate) fn word_of(why: ClaimRefusal) -> &'static str {
+    let word = match &why {
+        ClaimRefusal::HistoryFull => "full",
+        ClaimRefusal::KeeperFault => "keeper",
+        _ => "other",
+    };
     drop(why);
-    is
+    word
 }
 
 // Tries to claim an interval, where the keeper fails at that.
@@ -93,7 +87,7 @@ fn fail_claim<K: Keeper>(rt: &impl Abort, trial: Trial, book: &mut Book<'_, K>, 
     if trial.failing == u64::from(interval) + 1 {
         let before = sight(book);
         let why = refused(rt, claim(trial.alloc, book, interval));
-        let is_so = is_fault(why) && is_as_before(book, &before);
+        let is_so = word_of(why) == "keeper" && sight(book) == before;
         must(rt, is_so, "the keeper failed, and nothing changes");
     }
 }
@@ -152,15 +146,6 @@ fn fail_next<K: Keeper>(
     }
 }
 
-// The row of what was written as the entry of this number.
-fn row_of(rt: &impl Abort, written: Written, number: u64) -> Row
-    ensures { result ≡ written.row }
-{
-    let Written { commit, row } = written;
-    must(rt, commit == number, "it has its commit number");
-    row
-}
-
 // What comes next after so many of the entries is done, and the row that it leaves.
 pub(crate) fn step<K: Keeper>(
     rt: &impl Abort,
@@ -179,8 +164,9 @@ pub(crate) fn step<K: Keeper>(
 {
     fail_next(rt, trial, book, hands, row, count);
     let written = made(rt, next(trial.alloc, book, hands, row, count));
-    must(rt, looks_so(book, count + 1), count);
-    row_of(rt, written, count)
+    let Written { commit, row } = written;
+    must(rt, commit == count && looks_so(book, count + 1), count);
+    row
 }
 
 // The first line is injected, and the injector's row that it leaves.

@@ -4,8 +4,9 @@ ghost use Rattle.topology.specs.Rules.{interval_count};
 ghost use Rattle.worked_examples.specs.Rising.{rise_case};
 ghost use Rattle.engine_tests.specs.TestSeats.{IsAtRest};
 
-use super::pairs::{Pair, over_two_seats};
-use super::seats::{Tried, are_tried, claim_once, try_once};
+use super::pairs::Pair;
+use super::seats::{Tried, claim_once, try_once};
+use super::tables::{Table, try_all};
 use crate::tests::must;
 use row_keeper::Keeper;
 use shared_book::{Seat, Shared};
@@ -88,11 +89,11 @@ pub(crate) fn take_turns<K: Keeper>(
 {
     let found = [found_beside(shared, one, other), try_once(shared, other)];
     let claimed = claim_by_turns(alloc, shared, one, other);
-    let is_so = are_tried(&found, FOUND) && are_tried(&claimed, CLAIMED);
+    let is_so = found.as_slice() == FOUND && claimed.as_slice() == CLAIMED;
     must(rt, is_so, "what comes of each try");
 }
 
 #[test]
 fn turn_is_busy(rt: HostRuntime) {
-    over_two_seats(&rt, rt.alloc(), Pair::Turns, 3);
+    try_all(&rt, rt.alloc(), Table::Seats(Pair::Turns, 3));
 }

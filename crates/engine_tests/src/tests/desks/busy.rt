@@ -5,9 +5,9 @@ ghost use Rattle.node.specs.Fits.{Fits};
 ghost use Rattle.engine_tests.specs.TestSeats.{IsAtRest};
 
 use super::acts::{Act, Answer, drive};
-use super::entries::Told;
 use super::example::Example;
 use super::plays::{Acts, Kept, Play, Row, Table, Two, play_all};
+use crate::tests::entries::Told;
 use book::{Desk, Seen};
 use node::Node;
 use row_keeper::Keeper;

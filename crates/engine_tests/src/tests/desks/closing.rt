@@ -1,7 +1,7 @@
 //! The marks that a worker raised at the desk of a seat come back with the book.
 use super::acts::{Act, Answer};
-use super::entries::Told;
 use super::plays::{Kept, Play, Row, Table, play_all};
+use crate::tests::entries::Told;
 
 // The first line is worked off, and both marks rise to 60: the count's once its lease is settled under the
 // injector's mark, with the turn of the second claim.

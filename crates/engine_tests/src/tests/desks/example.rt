@@ -33,17 +33,9 @@ impl Example {
     }
 }
 
-// The computations of a case.
-fn work_of(rt: &impl Abort, alloc: Global, case: &Case) -> Kinds
-    ensures injectors { result.injectors ≡ injectors_of case.now.topology }
-    ensures kinds { result.kinds ≡ kinds_of case.now.topology }
-{
-    made(rt, Kinds::of(alloc, &case.topology))
-}
-
 // The case of two lines with its computations.
 pub(crate) fn two_lines_example(rt: &impl Abort, alloc: Global) -> Example {
     let case = two_line_case(rt, alloc);
-    let work = work_of(rt, alloc, &case);
+    let work = made(rt, Kinds::of(alloc, &case.topology));
     Example { case, work }
 }

@@ -1,8 +1,8 @@
 //! A keeper that fails under a worker's turn: the call answers so and appends nothing, the turn is given
 //! back, and the same call does it afterwards.
 use super::acts::{Act, Answer};
-use super::entries::Told;
 use super::plays::{Kept, Play, Row, Table, play_all};
+use crate::tests::entries::Told;
 
 // Call 0 of the keeper is that of the book's start. A claim is one call, which reads the interval's rows, and
 // so is a write, which puts its row; a report and what is refused before the keeper is asked are none. So

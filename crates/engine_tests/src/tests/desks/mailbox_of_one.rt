@@ -1,17 +1,19 @@
 //! A mailbox with one place, and one pass of it.
-ghost use Rattle.std.specs.Prelude.{◌≡◌, IfOk};
+ghost use Rattle.std.specs.Prelude.{◌≡◌};
 ghost use Rattle.topology.specs.Samples.{one_count};
 ghost use Rattle.topology.specs.Shapes.{parts_of};
 ghost use Rattle.crossbeam_queue.specs.Passes.{IsPassOf};
 ghost use Rattle.node.specs.Messages.{IsAddressed};
 ghost use Rattle.node.specs.Received.{note_of, outgoing_of};
 
-use crate::tests::made;
+use super::turns_of_work::mailbox;
+use crate::tests::must;
 use book::NoNote;
 use mailboxes::{MailPass, Mailbox, Office};
-use mw_types::{Key, NoMemory, RecordId, RowName};
+use mw_types::{Key, RecordId, RowName};
 use node::{Message, Receipt};
 use std::alloc::Global;
+use std::process::Abort;
 use std::sync::Wait;
 
 // The office of an injector and a count, whose messages have no note.
@@ -53,26 +55,17 @@ fn number_in(message: Message<NoNote>) -> u64 {
     }
 }
 
-// A mailbox with one place, and its pass.
-fn one_place(alloc: Global) -> Result<(Box, Pass), NoMemory>
-    ensures { IfOk result (λ made. IsPassOf made.0.line made.1.pass) }
-{
-    let (mailbox, mut passes) = Box::new(alloc, 1, 1)?;
-    match passes.pop() {
-        Some(pass) => Ok((mailbox, pass)),
-        None => Err(NoMemory),
-    }
-}
-
 // What a mailbox with one place answers to two words and to two tries to take one: whether it took each, and
 // the numbers that it gave, 0 for none.
-fn answers<R: Wait>(rt: &R, alloc: Global) -> Result<[u64; 4], NoMemory> {
-    let (mailbox, mut pass) = one_place(alloc)?;
+fn answers<R: Wait + Abort>(rt: &R, alloc: Global) -> [u64; 4] {
+    let (mailbox, mut pass) = mailbox::<NoNote, Example>(rt, alloc, 1);
     let first = put(rt, &mailbox, &mut pass, word(alloc, 7));
     let second = put(rt, &mailbox, &mut pass, word(alloc, 8));
     let third = taken(rt, &mailbox, &mut pass);
     let fourth = taken(rt, &mailbox, &mut pass);
-    Ok([first, second, third, fourth])
+    drop(pass);
+    drop(mailbox);
+    [first, second, third, fourth]
 }
 
 // The number of the word that comes back, 0 where it is put.
@@ -100,6 +93,9 @@ fn taken<R: Wait>(rt: &R, mailbox: &Box, pass: &mut Pass) -> u64
 
 #[test]
 fn mailbox_of_one(rt: HostRuntime) {
-    let answers = made(&rt, answers(&rt, rt.alloc()));
-    assert!(rt; answers == [0, 8, 7, 0]);
+    must(
+        &rt,
+        answers(&rt, rt.alloc()) == [0, 8, 7, 0],
+        "what it answers",
+    );
 }

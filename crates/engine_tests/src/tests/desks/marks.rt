@@ -2,8 +2,8 @@
 //! its lease was overtaken before it was raised.
 use super::acts::{Act, Answer};
 use super::crossing::Step;
-use super::entries::Told;
 use super::plays::{Kept, Play, Row, Two, play_all};
+use crate::tests::entries::Told;
 
 // Worker 0 injects the line, whose record is at 10, and worker 1 is to handle it. The injector's own work is that
 // record, and then the watermark of 60 before the second line; the count's is the end of the window, at 60.

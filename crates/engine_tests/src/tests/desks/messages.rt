@@ -1,8 +1,8 @@
 //! Two workers over the desks of two seats, who take in each other's messages.
 use super::acts::{Act, Answer};
 use super::crossing::Step;
-use super::entries::Told;
 use super::plays::{Kept, Play, Row, Two, play_all};
+use crate::tests::entries::Told;
 
 // Worker 0 claims both intervals and injects the line, whose record it handles and does not yet write. A copy
 // of its message is of no row that worker 1 has, but the note of it tells the three entries. Worker 1 claims

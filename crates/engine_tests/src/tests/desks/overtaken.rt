@@ -1,8 +1,8 @@
 //! Two workers over the desks of two seats: what one writes after the other has claimed its interval is
 //! refused, names that claim, and changes nothing.
 use super::acts::{Act, Answer};
-use super::entries::Told;
 use super::plays::{Acts, Kept, Play, Row, Two, play_all};
+use crate::tests::entries::Told;
 
 // Worker 1 claims the injector's interval before worker 0 injects. The claim is entry 2, which names what
 // overtook the lease 0. Without the lease there is nothing to inject.

@@ -56,5 +56,7 @@ fn each_is_read(rt: &impl Abort, alloc: Global, case: &Case) {
 #[test]
 fn plans_are_read(rt: HostRuntime) {
     let alloc = rt.alloc();
-    each_is_read(&rt, alloc, &case(&rt, alloc, COUNT, ""));
+    let case = case(&rt, alloc, COUNT, "");
+    each_is_read(&rt, alloc, &case);
+    drop(case);
 }

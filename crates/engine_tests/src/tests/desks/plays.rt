@@ -1,13 +1,11 @@
 //! What workers do at the desks of a book, and what stands in the book at the end.
-ghost use Rattle.std.specs.Prelude.{◌≡◌};
-
 use super::acts::{Act, Answer};
 use super::crossing::Step;
-use super::entries::Told;
 use super::example::{Example, two_lines_example};
 use super::same_answers::over_own_book;
 use super::seats::over_one_seat;
 use super::two_workers::over_two_seats;
+use crate::tests::entries::Told;
 use crate::tests::keepers::{blind, in_memory};
 use crate::tests::made;
 use book::Book;
@@ -73,23 +71,6 @@ pub(crate) struct Row<'a> {
     pub(crate) marks: [u64; 2],
 }
 
-// A row is played over a book.
-fn over<R: Wait + Abort, K: Keeper>(
-    rt: &R,
-    alloc: Global,
-    given: &Example,
-    book: Book<'_, K>,
-    row: &Row<'_>,
-)
-    requires case { book.case ≡ given.now.case }
-{
-    match row.play {
-        Play::Own(table) => over_own_book(rt, alloc, given, book, row, table),
-        Play::One(table) => over_one_seat(rt, alloc, given, book, row, table),
-        Play::Two(two) => over_two_seats(rt, alloc, given, book, row, two),
-    }
-}
-
 // A row is played over a new book with this keeper.
 fn begin<R: Wait + Abort, K: Keeper>(
     rt: &R,
@@ -100,7 +81,11 @@ fn begin<R: Wait + Abort, K: Keeper>(
 ) {
     let limit = u64::from(row.limit);
     let book = made(rt, Book::start(alloc, &given.case, keeper, limit));
-    over(rt, alloc, given, book, row);
+    match row.play {
+        Play::Own(table) => over_own_book(rt, alloc, given, book, row, table),
+        Play::One(table) => over_one_seat(rt, alloc, given, book, row, table),
+        Play::Two(two) => over_two_seats(rt, alloc, given, book, row, two),
+    }
 }
 
 // Each row is played over a new book of its own.
@@ -108,7 +93,7 @@ fn play_each<R: Wait + Abort>(rt: &R, alloc: Global, given: &Example, rows: &[Ro
     for row in rows {
         match row.kept {
             Kept::InMemory(calls) => begin(rt, alloc, given, in_memory(rt, alloc, calls), row),
-            Kept::Blind => begin(rt, alloc, given, blind(alloc), row),
+            Kept::Blind => begin(rt, alloc, given, blind(rt, alloc, 7, &[]), row),
         }
     }
 }

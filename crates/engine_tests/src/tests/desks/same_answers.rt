@@ -2,9 +2,9 @@
 ghost use Rattle.std.specs.Prelude.{◌≡◌};
 
 use super::acts::{Act, Answer, drive};
-use super::entries::{Told, has_left};
 use super::example::Example;
 use super::plays::{Kept, Play, Row, Table, play_all};
+use crate::tests::entries::{Told, has_left};
 use book::{Book, OwnDesk};
 use node::Node;
 use row_keeper::Keeper;
@@ -73,23 +73,7 @@ static ROWS: [Row<'static>; 3] = [
     },
 ];
 
-// A worker at the desk of a book.
-fn at_own_desk<K: Keeper>(
-    rt: &impl Abort,
-    alloc: Global,
-    given: &Example,
-    book: &mut Book<'_, K>,
-    table: Table<'_>,
-)
-    requires case { book.old.case ≡ given.now.case }
-{
-    let mut desk = OwnDesk::on(book);
-    let mut node = Node::new(alloc, 0);
-    drive(rt, alloc, given, &mut desk, &mut node, table);
-    drop(node);
-}
-
-// A worker over a book of its own.
+// A worker at the desk of a book of its own.
 pub(crate) fn over_own_book<K: Keeper>(
     rt: &impl Abort,
     alloc: Global,
@@ -101,8 +85,11 @@ pub(crate) fn over_own_book<K: Keeper>(
     requires case { book.case ≡ given.now.case }
 {
     let mut book = book;
-    at_own_desk(rt, alloc, given, &mut book, table);
-    has_left(rt, &book, row);
+    let mut desk = OwnDesk::on(&mut book);
+    let mut node = Node::new(alloc, 0);
+    drive(rt, alloc, given, &mut desk, &mut node, table);
+    drop(node);
+    has_left(rt, &book, row.entries, &row.marks);
     drop(book);
 }
 

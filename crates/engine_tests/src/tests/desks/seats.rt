@@ -3,9 +3,9 @@ ghost use Rattle.std.specs.Prelude.{◌≡◌, ◌∷◌, []};
 ghost use Rattle.engine_tests.specs.TestSeats.{IsAtRest};
 
 use super::acts::drive;
-use super::entries::has_left;
 use super::example::Example;
 use super::plays::{Row, Table};
+use crate::tests::entries::has_left;
 use crate::tests::made;
 use book::Book;
 use node::Node;
@@ -35,28 +35,7 @@ fn at_seat<K: Keeper>(
     drop(node);
 }
 
-// The book comes back with what is wanted.
-fn one_seat<K: Keeper>(
-    rt: &impl Abort,
-    alloc: Global,
-    given: &Example,
-    shared: Shared<'_, K>,
-    seat: Seat<K>,
-    row: &Row<'_>,
-    table: Table<'_>,
-)
-    requires case { shared.case.now ≡ given.now.case }
-    requires rest { let table = shared.table.shared in
-        IsAtRest table.table_id shared.case.now 1 (0 ∷ []) seat.place }
-{
-    let mut seat = seat;
-    at_seat(rt, alloc, given, &shared, &mut seat, table);
-    let book = shared.close(seat);
-    has_left(rt, &book, row);
-    drop(book);
-}
-
-// A worker over a shared book of one seat.
+// A worker over a shared book of one seat, which comes back with what is wanted.
 pub(crate) fn over_one_seat<K: Keeper>(
     rt: &impl Abort,
     alloc: Global,
@@ -68,5 +47,9 @@ pub(crate) fn over_one_seat<K: Keeper>(
     requires case { book.case ≡ given.now.case }
 {
     let (shared, seat) = made(rt, Shared::start(alloc, book, 1));
-    one_seat(rt, alloc, given, shared, seat, row, table);
+    let mut seat = seat;
+    at_seat(rt, alloc, given, &shared, &mut seat, table);
+    let book = shared.close(seat);
+    has_left(rt, &book, row.entries, &row.marks);
+    drop(book);
 }

@@ -6,13 +6,14 @@ ghost use Rattle.node.specs.Fits.{Fits};
 ghost use Rattle.engine_tests.specs.TestSeats.{IsAtRest};
 
 use super::acts::{Answer, short};
+use crate::tests::keepers::in_memory;
 use crate::tests::text_cases::lines;
 use crate::tests::{made, must};
 use book::{Book, Desk, Seen};
 use injector::ItemsList;
-use mw_types::{CallList, Entry};
+use mw_types::Entry;
 use node::Node;
-use row_keeper::{Keeper, MemKeeper};
+use row_keeper::Keeper;
 use run_history::Case;
 use shared_book::{Seat, Shared, SharedDesk};
 use std::alloc::Global;
@@ -223,19 +224,6 @@ fn two_threads<K: Keeper + Send, R: Threads + Wait + Abort + Sync>(
     has_all(rt, alloc, book);
 }
 
-// The book is shared among two seats.
-fn shared<K: Keeper + Send, R: Threads + Wait + Abort + Sync>(
-    rt: &R,
-    alloc: Global,
-    case: &Case,
-    book: Book<'_, K>,
-)
-    requires case { book.case ≡ case.now }
-{
-    let (shared, seat) = made(rt, Shared::start(alloc, book, 2));
-    two_threads(rt, alloc, shared, case, seat);
-}
-
 // Two injectors, and a pass that reads both.
 const TOPOLOGY: &str =
     r#"{"injectors":[{"name":"clicks","stream":"raw"},{"name":"views","stream":"seen"}],"computations":[{"name":"copy","kind":"pass","reads":[{"stream":"raw","by":"key"},{"stream":"seen","by":"key"}],"stream":"copies"}]}"#;
@@ -263,19 +251,18 @@ fn two_injectors(rt: &impl Abort, alloc: Global) -> Case {
     made(rt, Case::of(alloc, topology, items))
 }
 
-// A book of the case is shared.
+// A book of the case is shared among two seats.
 fn begin<R: Threads + Wait + Abort + Sync>(rt: &R, alloc: Global, case: &Case) {
-    let keeper = MemKeeper::new(alloc, CallList::new(alloc));
-    shared(
-        rt,
-        alloc,
-        case,
-        made(rt, Book::start(alloc, case, keeper, 500)),
-    );
+    let keeper = in_memory(rt, alloc, &[]);
+    let book = made(rt, Book::start(alloc, case, keeper, 500));
+    let (shared, seat) = made(rt, Shared::start(alloc, book, 2));
+    two_threads(rt, alloc, shared, case, seat);
 }
 
 #[test]
 fn threads_inject_under_one_book(rt: HostRuntime) {
     let alloc = rt.alloc();
-    begin(&rt, alloc, &two_injectors(&rt, alloc));
+    let case = two_injectors(&rt, alloc);
+    begin(&rt, alloc, &case);
+    drop(case);
 }

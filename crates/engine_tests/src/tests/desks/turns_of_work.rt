@@ -1,6 +1,6 @@
 //! Two workers in their turns of work, of which one has the injector and the other the count: the
 //! count's timer fires, since each turn loads the marks that the other worker has reported.
-ghost use Rattle.std.specs.Prelude.{◌≡◌, ◌∷◌, [], length};
+ghost use Rattle.std.specs.Prelude.{◌≡◌, ◌<◌, ◌≤◌, ◌∷◌, [], length};
 ghost use Rattle.crossbeam_queue.specs.Passes.{IsPassOf};
 ghost use Rattle.run_history.specs.Cases.{intervals_of};
 ghost use Rattle.node.specs.Fits.{Fits};
@@ -9,9 +9,9 @@ ghost use Rattle.workers.specs.Passing.{ArePasses};
 ghost use Rattle.engine_tests.specs.TestSeats.{IsAtRest};
 
 use super::acts::{Act, Answer, drive};
-use super::entries::Told;
 use super::example::Example;
 use super::plays::{Kept, Play, Row, Table, Two, play_all};
+use crate::tests::entries::Told;
 use crate::tests::made;
 use book::Seen;
 use mailboxes::{MailPass, Mailbox, Office};
@@ -52,11 +52,17 @@ static ROWS: [Row<'static>; 1] = [Row {
     marks: [END, 120],
 }];
 
-// A mailbox, and its one pass.
-fn mailbox<N: Seen, J: Office>(rt: &impl Abort, alloc: Global) -> (Mailbox<N, J>, MailPass<N, J>)
+// A mailbox with room for so many messages, and its one pass.
+pub(crate) fn mailbox<N: Seen, J: Office>(
+    rt: &impl Abort,
+    alloc: Global,
+    room: u32,
+) -> (Mailbox<N, J>, MailPass<N, J>)
+    requires room { 0 < room }
+    requires small { room ≤ 1024 }
     ensures { IsPassOf result.0.line result.1.pass }
 {
-    let (mailbox, mut passes) = made(rt, Mailbox::new(alloc, 8, 1));
+    let (mailbox, mut passes) = made(rt, Mailbox::new(alloc, room, 1));
     match passes.pop() {
         Some(pass) => (mailbox, pass),
         None => rt.panic("no pass"),
@@ -199,8 +205,8 @@ pub(crate) fn at_turning_seats<R: Wait + Abort, K: Keeper, J: Office>(
     ensures other { let table = shared.now.table.shared in
         IsAtRest table.table_id shared.now.case.now 2 (1 ∷ []) other.new.place }
 {
-    let (source, to_source) = mailbox::<Note<K>, J>(rt, alloc);
-    let (count, to_count) = mailbox::<Note<K>, J>(rt, alloc);
+    let (source, to_source) = mailbox::<Note<K>, J>(rt, alloc, 8);
+    let (count, to_count) = mailbox::<Note<K>, J>(rt, alloc, 8);
     let boxes = [source, count];
     let mut passes = [to_source, to_count];
     let mut first = SharedDesk::on(&*shared, one);

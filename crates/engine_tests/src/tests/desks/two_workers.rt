@@ -5,10 +5,10 @@ ghost use Rattle.engine_tests.specs.TestSeats.{IsAtRest};
 use super::acts::drive;
 use super::busy::at_busy_seats;
 use super::crossing::cross;
-use super::entries::has_left;
 use super::example::Example;
 use super::plays::{Acts, Row, Two};
 use super::turns_of_work::at_turning_seats;
+use crate::tests::entries::has_left;
 use crate::tests::made;
 use book::{Book, Desk, Seen};
 use node::Node;
@@ -82,31 +82,7 @@ fn at_seats<R: Wait + Abort, K: Keeper>(
     }
 }
 
-// The seats are joined, and the book comes back.
-fn two_seats<R: Wait + Abort, K: Keeper>(
-    rt: &R,
-    alloc: Global,
-    given: &Example,
-    shared: Shared<'_, K>,
-    seat: Seat<K>,
-    row: &Row<'_>,
-    two: Two<'_>,
-)
-    requires case { shared.case.now ≡ given.now.case }
-    requires rest { let table = shared.table.shared in
-        IsAtRest table.table_id shared.case.now 2 (0 ∷ 1 ∷ []) seat.place }
-    requires first { seat.number ≡ 0 }
-{
-    let mut other = seat;
-    let mut one = shared.deal(&mut other);
-    at_seats(rt, alloc, given, &shared, &mut one, &mut other, two);
-    shared.join(&mut other, one);
-    let book = shared.close(other);
-    has_left(rt, &book, row);
-    drop(book);
-}
-
-// Workers over a shared book of two seats.
+// Workers over a shared book of two seats, which are joined, and the book comes back.
 pub(crate) fn over_two_seats<R: Wait + Abort, K: Keeper>(
     rt: &R,
     alloc: Global,
@@ -118,5 +94,11 @@ pub(crate) fn over_two_seats<R: Wait + Abort, K: Keeper>(
     requires case { book.case ≡ given.now.case }
 {
     let (shared, seat) = made(rt, Shared::start(alloc, book, 2));
-    two_seats(rt, alloc, given, shared, seat, row, two);
+    let mut other = seat;
+    let mut one = shared.deal(&mut other);
+    at_seats(rt, alloc, given, &shared, &mut one, &mut other, two);
+    shared.join(&mut other, one);
+    let book = shared.close(other);
+    has_left(rt, &book, row.entries, &row.marks);
+    drop(book);
 }

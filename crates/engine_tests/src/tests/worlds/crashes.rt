@@ -1,6 +1,5 @@
 //! Workers that crash, and records that come late.
-use super::must_be_none;
-use super::tables::wrong_in;
+use super::tables::{COUNTED, SOUND, Table, all_hold};
 
 // The record is copied, handled and acknowledged, and its row forgets its id; then the copy comes.
 const LATE_COPY: &str = "claim 0 0 = Claimed 0
@@ -67,14 +66,15 @@ drain = Ok
 last = Claim 1
 count = entries 16";
 
+// The four tables.
+static TABLES: [Table; 4] = [
+    ("late copy is duplicate", COUNTED, SOUND, LATE_COPY),
+    ("crash between write and send", COUNTED, SOUND, UNSENT),
+    ("crash before write", COUNTED, SOUND, UNWRITTEN),
+    ("a second drain claims alone", COUNTED, SOUND, SECOND_DRAIN),
+];
+
 #[test]
 fn a_crash_or_a_late_copy_changes_nothing_that_is_written(rt: HostRuntime) {
-    for (name, table) in &[
-        ("late copy is duplicate", LATE_COPY),
-        ("crash between write and send", UNSENT),
-        ("crash before write", UNWRITTEN),
-        ("a second drain claims alone", SECOND_DRAIN),
-    ] {
-        must_be_none(&rt, wrong_in(&rt, rt.alloc(), table), name);
-    }
+    all_hold(&rt, rt.alloc(), &TABLES);
 }

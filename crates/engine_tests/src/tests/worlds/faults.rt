@@ -1,10 +1,7 @@
 //! A keeper that does not tell its rows, a keeper that fails, and a book that is full.
-use super::fixtures::{CHAIN, MOST, PASSED, blind_keeper};
-use super::must_be_none;
-use super::tables::{wrong_line, wrong_over, wrong_where};
+use super::fixtures::{CHAIN, PASSED};
+use super::tables::{COUNTED, Over, Table, all_hold};
 use crate::tests::text_cases::{COUNT, RECORDS, TWO};
-use std::alloc::Global;
-use std::process::Abort;
 
 // A row of the count that has handled nothing.
 const NEW_ROW: &[u8] = &[
@@ -54,21 +51,25 @@ drain = RowDamaged
 last = Claim 0
 count = entries 3";
 
-// The first wrong line over a keeper that does not tell, and shows these bytes.
-fn wrong_untold(rt: &impl Abort, alloc: Global, events: &str, shown: &[u8], table: &str) -> u64 {
-    let keeper = blind_keeper(rt, alloc, shown);
-    wrong_over(rt, alloc, (COUNT, events), keeper, MOST, table)
-}
+// What the keeper shows is a row, or none.
+static BLIND: [Table; 2] = [
+    (
+        "a keeper that does not tell",
+        (COUNT, TWO),
+        Over::Blind(NEW_ROW),
+        UNTOLD,
+    ),
+    (
+        "a row that is damaged",
+        COUNTED,
+        Over::Blind(NO_ROW),
+        DAMAGED,
+    ),
+];
 
 #[test]
 fn a_keeper_does_not_tell_or_shows_what_is_no_row(rt: HostRuntime) {
-    for (name, events, shown, table) in &[
-        ("a keeper that does not tell", TWO, NEW_ROW, UNTOLD),
-        ("a row that is damaged", RECORDS, NO_ROW, DAMAGED),
-    ] {
-        let line = wrong_untold(&rt, rt.alloc(), events, shown, table);
-        must_be_none(&rt, line, name);
-    }
+    all_hold(&rt, rt.alloc(), &BLIND);
 }
 
 // A step whose call of the keeper fails leaves the world as it was, but that a message which was taken is
@@ -145,36 +146,31 @@ last = Handle 3
 send 0 = Sent 2
 count = entries 5";
 
-// Tables over a keeper of which these calls fail: of each the name, the case, the calls, and the lines.
-type Failing = (
-    &'static str,
-    (&'static str, &'static str),
-    &'static [u64],
-    &'static str,
-);
-
-static TABLES: [Failing; 3] = [
+// Tables over a keeper of which these calls fail.
+static FAULTS: [Table; 3] = [
     (
         "a keeper that fails",
         (COUNT, TWO),
-        &[1, 4, 6, 8, 10, 12, 15],
+        Over::Failing(&[1, 4, 6, 8, 10, 12, 15]),
         FAILING,
     ),
-    ("a timer of a chain", (CHAIN, TWO), &[7], UNFIRED),
+    (
+        "a timer of a chain",
+        (CHAIN, TWO),
+        Over::Failing(&[7]),
+        UNFIRED,
+    ),
     (
         "a record that is passed on",
         (PASSED, RECORDS),
-        &[5],
+        Over::Failing(&[5]),
         UNPASSED,
     ),
 ];
 
 #[test]
 fn a_step_whose_keeper_fails_is_not_done(rt: HostRuntime) {
-    for (name, case, failing, table) in &TABLES {
-        let line = wrong_where(&rt, rt.alloc(), *case, failing, table);
-        must_be_none(&rt, line, name);
-    }
+    all_hold(&rt, rt.alloc(), &FAULTS);
 }
 
 // A book that takes three entries refuses the steps that would append a fourth, and no other.
@@ -215,17 +211,13 @@ write 0 = Stale 3
 write 0 = Nothing
 count = entries 4";
 
-// The first wrong line over a book that takes three entries, or four.
-fn wrong_full(rt: &impl Abort, alloc: Global, limit: u32) -> u64 {
-    match limit {
-        3 => wrong_line(rt, alloc, (COUNT, RECORDS), &[], 3, FULL),
-        _ => wrong_line(rt, alloc, (COUNT, RECORDS), &[], 4, STALE_AND_FULL),
-    }
-}
+// A book that takes three entries, and one that takes four.
+static FULL_BOOKS: [Table; 2] = [
+    ("three entries", COUNTED, Over::Full(3), FULL),
+    ("four entries", COUNTED, Over::Full(4), STALE_AND_FULL),
+];
 
 #[test]
 fn a_full_history_takes_no_entry(rt: HostRuntime) {
-    for (name, limit) in &[("three entries", 3), ("four entries", 4)] {
-        must_be_none(&rt, wrong_full(&rt, rt.alloc(), *limit), name);
-    }
+    all_hold(&rt, rt.alloc(), &FULL_BOOKS);
 }

@@ -1,4 +1,4 @@
-//! Topologies, keepers and worlds of the tests.
+//! Topologies and worlds of the tests.
 ghost use Rattle.std.specs.Prelude.{◌≤◌, ◌^◌};
 ghost use Rattle.node.specs.Works.{IsWorkOf};
 ghost use Rattle.computations.specs.Parts.{HasState, part_record, part_timer};
@@ -6,8 +6,8 @@ ghost use Rattle.computations.specs.Parts.{HasState, part_record, part_timer};
 use crate::tests::made;
 use book::Book;
 use computations::Kinds;
-use mw_types::{Bytes, Key, NoMemory, RowName};
-use row_keeper::{BlindKeeper, Keeper, KeptRow};
+use mw_types::NoMemory;
+use row_keeper::Keeper;
 use run_history::Case;
 use std::alloc::Global;
 use std::process::Abort;
@@ -25,14 +25,6 @@ pub const PASSED: &str =
 
 /// How many entries a history may have at most.
 pub const MOST: u64 = 1 << 32;
-
-// A keeper that does not tell its rows, and shows these bytes for the key `z` of the count.
-pub(crate) fn blind_keeper(rt: &impl Abort, alloc: Global, shown: &[u8]) -> BlindKeeper {
-    let key = made(rt, Key::of(alloc, "z"));
-    let bytes = Bytes::from_vec(made(rt, shown.to_vec(alloc)));
-    let name = RowName { part: 1, key };
-    BlindKeeper::new(KeptRow { name, bytes })
-}
 
 // The computations of a case.
 fn work(rt: &impl Abort, alloc: Global, case: &Case) -> Kinds

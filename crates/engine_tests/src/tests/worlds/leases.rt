@@ -1,6 +1,5 @@
 //! Leases that were overtaken, and workers without one.
-use super::must_be_none;
-use super::tables::wrong_in;
+use super::tables::{COUNTED, SOUND, Table, all_hold};
 
 // The second worker claims the count while the first has prepared a record of it. The record is sent once
 // more, to its new owner. Two claims, two lines and what comes of each, two timers and a purge follow.
@@ -88,14 +87,20 @@ count = entries 4
 drain = Ok
 count = entries 16";
 
+// The four tables.
+static TABLES: [Table; 4] = [
+    ("old owner is stale", COUNTED, SOUND, OLD_OWNER),
+    ("a report is stale once", COUNTED, SOUND, STALE_REPORT),
+    ("an acknowledgement is stale", COUNTED, SOUND, STALE_ACK),
+    (
+        "a worker resends until its lease is stale",
+        COUNTED,
+        SOUND,
+        RESENT,
+    ),
+];
+
 #[test]
 fn a_lease_that_was_overtaken_is_stale(rt: HostRuntime) {
-    for (name, table) in &[
-        ("old owner is stale", OLD_OWNER),
-        ("a report is stale once", STALE_REPORT),
-        ("an acknowledgement is stale", STALE_ACK),
-        ("a worker resends until its lease is stale", RESENT),
-    ] {
-        must_be_none(&rt, wrong_in(&rt, rt.alloc(), table), name);
-    }
+    all_hold(&rt, rt.alloc(), &TABLES);
 }

@@ -1,6 +1,5 @@
 //! Messages that are lost, copied, taken and gone, and steps that have nothing to do.
-use super::must_be_none;
-use super::tables::wrong_in;
+use super::tables::{COUNTED, SOUND, Table, all_hold};
 
 // A message that was lost is gone, and its record is sent once more.
 const LOST: &str = "claim 0 0 = Claimed 0
@@ -132,24 +131,31 @@ count = entries 4
 drain = Ok
 count = entries 15";
 
+// Messages that are taken, or not.
+static TAKEN_ONCE: [Table; 4] = [
+    ("a lost record is sent again", COUNTED, SOUND, LOST),
+    ("a message for another stays", COUNTED, SOUND, NOT_MINE),
+    ("a message that is gone is nothing", COUNTED, SOUND, GONE),
+    (
+        "a record waits while one is prepared",
+        COUNTED,
+        SOUND,
+        WAITING,
+    ),
+];
+
 #[test]
 fn a_message_is_taken_once_and_by_its_worker(rt: HostRuntime) {
-    for (name, table) in &[
-        ("a lost record is sent again", LOST),
-        ("a message for another stays", NOT_MINE),
-        ("a message that is gone is nothing", GONE),
-        ("a record waits while one is prepared", WAITING),
-    ] {
-        must_be_none(&rt, wrong_in(&rt, rt.alloc(), table), name);
-    }
+    all_hold(&rt, rt.alloc(), &TAKEN_ONCE);
 }
+
+// Steps that have nothing to do.
+static NOTHING: [Table; 2] = [
+    ("nothing to do is nothing", COUNTED, SOUND, NOTHING_TO_DO),
+    ("no line is left", COUNTED, SOUND, NO_LINE),
+];
 
 #[test]
 fn a_step_that_has_nothing_to_do_is_nothing(rt: HostRuntime) {
-    for (name, table) in &[
-        ("nothing to do is nothing", NOTHING_TO_DO),
-        ("no line is left", NO_LINE),
-    ] {
-        must_be_none(&rt, wrong_in(&rt, rt.alloc(), table), name);
-    }
+    all_hold(&rt, rt.alloc(), &NOTHING);
 }

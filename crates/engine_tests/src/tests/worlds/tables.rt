@@ -7,13 +7,13 @@ ghost use Rattle.std.specs.Prelude.{◌≤◌, ◌^◌, All};
 ghost use Rattle.scripts.specs.Steps.{IsStep};
 
 use super::fixtures::{MOST, world};
-use crate::tests::keepers::in_memory;
+use crate::tests::keepers::{blind, in_memory};
 use crate::tests::made;
 use crate::tests::text_cases::{COUNT, RECORDS, case};
 use computations::Kinds;
 use node::{NodeFault, Outcome};
 use row_keeper::Keeper;
-use run_history::{Case, EntryRef, History};
+use run_history::{Case, EntryRef};
 use schedules::{Schedule, read_schedule};
 use std::alloc::Global;
 use std::process::Abort;
@@ -57,26 +57,6 @@ fn answer<K: Keeper>(
 // An answer, as a table has it: its word, and its number where it has one.
 pub(crate) type Said = (&'static str, Option<u64>);
 
-// How a table has an outcome.
-fn outcome_said(outcome: &Outcome) -> Said {
-    match outcome {
-        Outcome::Claimed { seq } => ("Claimed", Some(*seq)),
-        Outcome::Committed { commit } => ("Committed", Some(*commit)),
-        Outcome::Queued { count } => ("Queued", Some(*count)),
-        Outcome::Sent { count } => ("Sent", Some(*count)),
-        Outcome::Copied { message } => ("Copied", Some(u64::from(*message))),
-        Outcome::Marked { mark } => ("Marked", Some(*mark)),
-        Outcome::Stale { newer } => ("Stale", Some(*newer)),
-        Outcome::Busy { found } => ("Busy", Some(*found)),
-        Outcome::Prepared => ("Prepared", None),
-        Outcome::Duplicate => ("Duplicate", None),
-        Outcome::NotMine => ("NotMine", None),
-        Outcome::Lost => ("Lost", None),
-        Outcome::Crashed => ("Crashed", None),
-        Outcome::Nothing => ("Nothing", None),
-    }
-}
-
 // How a table has a fault.
 fn fault_word(fault: &NodeFault) -> &'static str {
     match fault {
@@ -100,11 +80,6 @@ pub(crate) fn entry_said(entry: Option<EntryRef<'_>>) -> Said {
     }
 }
 
-// How a table has the last entry.
-fn last_said(history: &History) -> Said {
-    entry_said(history.get(history.len().wrapping_sub(1)))
-}
-
 // How a table has the end of a drain.
 fn drain_said<K: Keeper>(alloc: Global, world: &mut World<'_, K, Kinds>) -> Said {
     let drained = world.drain(alloc);
@@ -125,7 +100,20 @@ fn step_said<K: Keeper>(
 ) -> Said {
     let answer = answer(rt, alloc, world, line);
     let said = match &answer {
-        Ok(outcome) => outcome_said(outcome),
+        Ok(Outcome::Claimed { seq }) => ("Claimed", Some(*seq)),
+        Ok(Outcome::Committed { commit }) => ("Committed", Some(*commit)),
+        Ok(Outcome::Queued { count }) => ("Queued", Some(*count)),
+        Ok(Outcome::Sent { count }) => ("Sent", Some(*count)),
+        Ok(Outcome::Copied { message }) => ("Copied", Some(u64::from(*message))),
+        Ok(Outcome::Marked { mark }) => ("Marked", Some(*mark)),
+        Ok(Outcome::Stale { newer }) => ("Stale", Some(*newer)),
+        Ok(Outcome::Busy { found }) => ("Busy", Some(*found)),
+        Ok(Outcome::Prepared) => ("Prepared", None),
+        Ok(Outcome::Duplicate) => ("Duplicate", None),
+        Ok(Outcome::NotMine) => ("NotMine", None),
+        Ok(Outcome::Lost) => ("Lost", None),
+        Ok(Outcome::Crashed) => ("Crashed", None),
+        Ok(Outcome::Nothing) => ("Nothing", None),
         Err(fault) => (fault_word(fault), None),
     };
     drop(answer);
@@ -142,22 +130,12 @@ fn said<K: Keeper>(
     match asked {
         "drain" => drain_said(alloc, world),
         "count" => ("entries", Some(world.book().history().len() as u64)),
-        "last" => last_said(world.book().history()),
+        "last" => {
+            let history = world.book().history();
+            entry_said(history.get(history.len().wrapping_sub(1)))
+        }
         _ => step_said(rt, alloc, world, asked),
     }
-}
-
-// Whether an answer is written so.
-fn is_written(rt: &impl Abort, alloc: Global, said: Said, want: &str) -> bool {
-    match said {
-        (word, None) => word == want,
-        (word, Some(number)) => is_text(made(rt, format!(in alloc; "{word} {number}")), want),
-    }
-}
-
-// Whether a text is this one.
-fn is_text(text: String, want: &str) -> bool {
-    text.as_str() == want
 }
 
 // Whether one line of a table holds.
@@ -167,12 +145,17 @@ fn holds<K: Keeper>(
     world: &mut World<'_, K, Kinds>,
     line: &str,
 ) -> bool {
-    match line.split_once(" = ") {
-        Some((asked, want)) => {
-            let answer = said(rt, alloc, world, asked);
-            is_written(rt, alloc, answer, want)
+    let Some((asked, want)) = line.split_once(" = ") else {
+        return false;
+    };
+    match said(rt, alloc, world, asked) {
+        (word, None) => word == want,
+        (word, Some(number)) => {
+            let text = made(rt, format!(in alloc; "{word} {number}"));
+            let is = text.as_str() == want;
+            drop(text);
+            is
         }
-        None => false,
     }
 }
 
@@ -193,27 +176,35 @@ fn first_wrong<K: Keeper>(
     0
 }
 
-/// The number of the first line of a table that does not hold, or 0, over a new world of a topology and
-/// an event file and this keeper, whose book takes so many entries.
-pub(crate) fn wrong_over<K: Keeper>(
-    rt: &impl Abort,
-    alloc: Global,
-    files: (&str, &str),
-    keeper: K,
-    limit: u64,
-    table: &str,
-) -> u64
-    requires { limit ≤ 2 ^ 32 }
-{
-    let (topology, events) = files;
-    let case = case(rt, alloc, topology, events);
-    let wrong = wrong_of(rt, alloc, &case, keeper, limit, table);
-    drop(case);
-    wrong
+// Over which keeper and book a table is tried.
+#[derive(Clone, Copy)]
+pub(crate) enum Over {
+    // A keeper in memory whose calls of these numbers fail, and a book that takes as many entries as any.
+    Failing(&'static [u64]),
+    // A keeper in memory that does not fail, and a book that takes so many entries.
+    Full(u32),
+    // A keeper that does not tell its rows and shows these bytes for the key `z` of the count, and a book that takes
+    // as many entries as any.
+    Blind(&'static [u8]),
 }
 
-// The same over a new world of this case.
-fn wrong_of<K: Keeper>(
+// A keeper in memory that does not fail.
+pub(crate) const SOUND: Over = Over::Failing(&[]);
+
+// The count, and its three records.
+pub(crate) const COUNTED: (&str, &str) = (COUNT, RECORDS);
+
+// A table that is tried: its name, the topology and the event file, over what, and its lines.
+pub(crate) type Table = (
+    &'static str,
+    (&'static str, &'static str),
+    Over,
+    &'static str,
+);
+
+// The number of the first line of a table that does not hold, or 0, over a new world of this case and this keeper,
+// whose book takes so many entries.
+fn wrong_over<K: Keeper>(
     rt: &impl Abort,
     alloc: Global,
     case: &Case,
@@ -229,33 +220,36 @@ fn wrong_of<K: Keeper>(
     wrong
 }
 
-/// The same over a keeper in memory whose calls of these numbers fail.
-pub(crate) fn wrong_line(
-    rt: &impl Abort,
-    alloc: Global,
-    files: (&str, &str),
-    failing: &[u64],
-    limit: u64,
-    table: &str,
-) -> u64
-    requires { limit ≤ 2 ^ 32 }
-{
-    let keeper = in_memory(rt, alloc, failing);
-    wrong_over(rt, alloc, files, keeper, limit, table)
+// The same over the keeper and the book that the table tells.
+fn wrong_of(rt: &impl Abort, alloc: Global, case: &Case, table: &Table) -> u64 {
+    let (_, _, over, lines) = *table;
+    match over {
+        Over::Failing(calls) => {
+            wrong_over(rt, alloc, case, in_memory(rt, alloc, calls), MOST, lines)
+        }
+        Over::Full(limit) => {
+            let keeper = in_memory(rt, alloc, &[]);
+            wrong_over(rt, alloc, case, keeper, u64::from(limit), lines)
+        }
+        Over::Blind(shown) => {
+            wrong_over(rt, alloc, case, blind(rt, alloc, 1, shown), MOST, lines)
+        }
+    }
 }
 
-/// The same over a book that takes as many entries as any.
-pub(crate) fn wrong_where(
-    rt: &impl Abort,
-    alloc: Global,
-    files: (&str, &str),
-    failing: &[u64],
-    table: &str,
-) -> u64 {
-    wrong_line(rt, alloc, files, failing, MOST, table)
+// The same over the case that the table tells.
+fn wrong_in(rt: &impl Abort, alloc: Global, table: &Table) -> u64 {
+    let (topology, events) = table.1;
+    let case = case(rt, alloc, topology, events);
+    let wrong = wrong_of(rt, alloc, &case, table);
+    drop(case);
+    wrong
 }
 
-/// The same over the count, its three records, and a keeper that does not fail.
-pub(crate) fn wrong_in(rt: &impl Abort, alloc: Global, table: &str) -> u64 {
-    wrong_where(rt, alloc, (COUNT, RECORDS), &[], table)
+// Each line of each table holds. One that does not is named, with its table.
+pub(crate) fn all_hold(rt: &impl Abort, alloc: Global, tables: &[Table]) {
+    for table in tables {
+        let (name, line) = (table.0, wrong_in(rt, alloc, table));
+        assert!(rt; line == 0, "{name}: line {line}");
+    }
 }

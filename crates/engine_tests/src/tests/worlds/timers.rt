@@ -1,6 +1,5 @@
 //! Reports, timers and purges.
-use super::must_be_none;
-use super::tables::{wrong_in, wrong_where};
+use super::tables::{COUNTED, SOUND, Table, all_hold};
 use crate::tests::text_cases::{COUNT, TWO};
 
 // A timer fires once its interval's mark is at its time, and not while a record is prepared.
@@ -92,19 +91,26 @@ drain = Ok
 last = Purge 17
 count = entries 18";
 
+// Timers that fire, or not yet.
+static DUES: [Table; 2] = [
+    ("a timer fires when it is due", (COUNT, TWO), SOUND, DUE),
+    (
+        "the next owner reports the same",
+        (COUNT, TWO),
+        SOUND,
+        REPORTED,
+    ),
+];
+
 #[test]
 fn timers_fire_when_they_are_due(rt: HostRuntime) {
-    for (name, table) in &[
-        ("a timer fires when it is due", DUE),
-        ("the next owner reports the same", REPORTED),
-    ] {
-        let line = wrong_where(&rt, rt.alloc(), (COUNT, TWO), &[], table);
-        must_be_none(&rt, line, name);
-    }
+    all_hold(&rt, rt.alloc(), &DUES);
 }
+
+// A row that forgets, or has nothing to forget.
+static FORGETS: [Table; 1] = [("nothing to forget", COUNTED, SOUND, FORGOTTEN)];
 
 #[test]
 fn nothing_to_forget_is_nothing(rt: HostRuntime) {
-    let line = wrong_in(&rt, rt.alloc(), FORGOTTEN);
-    must_be_none(&rt, line, "nothing to forget");
+    all_hold(&rt, rt.alloc(), &FORGETS);
 }

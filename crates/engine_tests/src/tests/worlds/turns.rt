@@ -36,7 +36,9 @@ fn turns<K: Keeper>(
         return false;
     };
     let history = world.book().history();
-    more == is_more && history.len() == count && is_as(history, whole)
+    let last = history.len().wrapping_sub(1);
+    let is_as = entry_said(history.get(last)) == entry_said(whole.get(last));
+    more == is_more && history.len() == count && is_as
 }
 
 // Whether the next turn writes an entry, or none after a fault.
@@ -49,12 +51,6 @@ fn turn<K: Keeper>(
     ensures drain { OnSome result (HasDrain world.new drain.new) }
 {
     world.drain_turn(alloc, drain).ok()
-}
-
-// Whether a history ends as a whole one does at its length.
-fn is_as(history: &History, whole: &History) -> bool {
-    let last = history.len().wrapping_sub(1);
-    entry_said(history.get(last)) == entry_said(whole.get(last))
 }
 
 // Whether a drain by turns writes the entries of a whole history, one a turn, and then none, however often
@@ -102,27 +98,6 @@ fn after<'a>(
     world
 }
 
-// Whether a world is drained by turns as its twin was at once. After a fault it is drained once more, as its
-// twin was.
-fn agrees<K: Keeper>(
-    alloc: Global,
-    world: &mut World<'_, K, Kinds>,
-    whole: &History,
-    is_faulty: bool,
-) -> bool {
-    let first = is_drained_as(alloc, world, whole);
-    if is_faulty {
-        !first && is_drained_as(alloc, world, whole)
-    } else {
-        first
-    }
-}
-
-// Drains a world at once, and once more after a fault. Whether each ends as is wanted.
-fn ends<K: Keeper>(alloc: Global, world: &mut World<'_, K, Kinds>, is_faulty: bool) -> bool {
-    is_drained(alloc, world) != is_faulty && (!is_faulty || is_drained(alloc, world))
-}
-
 // Whether both ways of a drain write the same behind a script.
 fn is_one(
     rt: &impl Abort,
@@ -138,16 +113,19 @@ fn is_one(
     holds
 }
 
-// The same of a case.
+// The same of a case: a world is drained at once, and once more after a fault, and each ends as is wanted.
 fn is_one_of(rt: &impl Abort, alloc: Global, case: &Case, failing: &[u64], script: &str) -> bool {
+    let is_faulty = !failing.is_empty();
     let mut twin = after(rt, alloc, case, failing, script);
-    let holds = ends(alloc, &mut twin, !failing.is_empty())
-        && turns_as(rt, alloc, case, failing, script, twin.book().history());
+    let ends = is_drained(alloc, &mut twin) != is_faulty
+        && (!is_faulty || is_drained(alloc, &mut twin));
+    let holds = ends && turns_as(rt, alloc, case, failing, script, twin.book().history());
     drop(twin);
     holds
 }
 
-// Whether a drain by turns of a world behind a script writes the entries of a whole history.
+// Whether a drain by turns of a world behind a script writes the entries of a whole history. After a fault it is
+// drained once more, as its twin was.
 fn turns_as(
     rt: &impl Abort,
     alloc: Global,
@@ -157,7 +135,12 @@ fn turns_as(
     whole: &History,
 ) -> bool {
     let mut world = after(rt, alloc, case, failing, script);
-    let holds = agrees(alloc, &mut world, whole, !failing.is_empty());
+    let first = is_drained_as(alloc, &mut world, whole);
+    let holds = if failing.is_empty() {
+        first
+    } else {
+        !first && is_drained_as(alloc, &mut world, whole)
+    };
     drop(world);
     holds
 }

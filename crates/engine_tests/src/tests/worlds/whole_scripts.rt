@@ -1,13 +1,13 @@
 //! Whole scripts, whose answers are dropped.
 use super::fixtures::{MOST, world};
-use super::tables::schedule;
+use super::tables::{entry_said, schedule};
 use crate::tests::keepers::in_memory;
 use crate::tests::must;
 use crate::tests::text_cases::{COUNT, RECORDS, case};
 use computations::Kinds;
 use node::NodeFault;
 use row_keeper::Keeper;
-use run_history::{Case, EntryRef};
+use run_history::Case;
 use std::alloc::Global;
 use std::process::Abort;
 use world::{World, run_script};
@@ -52,11 +52,6 @@ fn leaves<K: Keeper>(
     ends_so && world.book().history().len() == entries
 }
 
-// Drains, and says whether that goes well and leaves so many entries.
-fn drains<K: Keeper>(alloc: Global, world: &mut World<'_, K, Kinds>, entries: usize) -> bool {
-    is_drained(alloc, world) && world.book().history().len() == entries
-}
-
 // Drains, and says whether that goes well.
 pub(crate) fn is_drained<K: Keeper>(alloc: Global, world: &mut World<'_, K, Kinds>) -> bool {
     let drained = world.drain(alloc);
@@ -65,53 +60,29 @@ pub(crate) fn is_drained<K: Keeper>(alloc: Global, world: &mut World<'_, K, Kind
     is_ok
 }
 
-// Whether an entry is that the record of this number was handled.
-fn handles(entry: Option<EntryRef<'_>>, commit: u64) -> bool {
-    match entry {
-        Some(EntryRef::Handle { id, .. }) => id.commit == commit,
-        _ => false,
-    }
+// What a script is tried for.
+enum Whole {
+    // A drain behind it handles what was prepared.
+    Handled,
+    // It ends at a fault.
+    Ended,
 }
 
 // The drain claims as entries 3 and 4, and handles the record as entry 5.
-fn is_handled_by_the_drain(rt: &impl Abort, alloc: Global) -> bool {
-    let case = case(rt, alloc, COUNT, RECORDS);
-    let is_handled = is_handled_of(rt, alloc, &case);
-    drop(case);
-    is_handled
-}
-
-// The same of a case.
-fn is_handled_of(rt: &impl Abort, alloc: Global, case: &Case) -> bool {
+fn is_handled(rt: &impl Abort, alloc: Global, case: &Case) -> bool {
     let keeper = in_memory(rt, alloc, &[]);
     let mut world = world(rt, alloc, case, keeper, MOST);
     let is_left = leaves(rt, alloc, &mut world, UNWRITTEN, true, 3);
-    let is_drained = drains(alloc, &mut world, 16);
+    let is_drained = is_drained(alloc, &mut world);
     let book = world.into_book();
-    let is_handled = handles(book.history().get(5), 2);
+    let history = book.history();
+    let is_handled = history.len() == 16 && entry_said(history.get(5)) == ("Handle", Some(2));
     drop(book);
     is_left && is_drained && is_handled
 }
 
-#[test]
-fn a_drain_handles_what_was_prepared(rt: HostRuntime) {
-    must(
-        &rt,
-        is_handled_by_the_drain(&rt, rt.alloc()),
-        "it is handled",
-    );
-}
-
 // The fourth call of the keeper fails, which the script's third step makes.
-fn ends_at_the_fault(rt: &impl Abort, alloc: Global) -> bool {
-    let case = case(rt, alloc, COUNT, RECORDS);
-    let ends = ends_of(rt, alloc, &case);
-    drop(case);
-    ends
-}
-
-// The same of a case.
-fn ends_of(rt: &impl Abort, alloc: Global, case: &Case) -> bool {
+fn ends(rt: &impl Abort, alloc: Global, case: &Case) -> bool {
     let keeper = in_memory(rt, alloc, &[3]);
     let mut world = world(rt, alloc, case, keeper, MOST);
     let ends = leaves(rt, alloc, &mut world, UNWRITTEN, false, 2);
@@ -120,7 +91,27 @@ fn ends_of(rt: &impl Abort, alloc: Global, case: &Case) -> bool {
     ends && goes_on
 }
 
+// Whether it is so, over the count and its three records.
+fn holds(rt: &impl Abort, alloc: Global, whole: &Whole) -> bool {
+    let case = case(rt, alloc, COUNT, RECORDS);
+    let holds = match whole {
+        Whole::Handled => is_handled(rt, alloc, &case),
+        Whole::Ended => ends(rt, alloc, &case),
+    };
+    drop(case);
+    holds
+}
+
+#[test]
+fn a_drain_handles_what_was_prepared(rt: HostRuntime) {
+    must(
+        &rt,
+        holds(&rt, rt.alloc(), &Whole::Handled),
+        "it is handled",
+    );
+}
+
 #[test]
 fn a_script_ends_at_a_fault(rt: HostRuntime) {
-    must(&rt, ends_at_the_fault(&rt, rt.alloc()), "it ends there");
+    must(&rt, holds(&rt, rt.alloc(), &Whole::Ended), "it ends there");
 }

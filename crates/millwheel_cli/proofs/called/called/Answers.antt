@@ -1,4 +1,4 @@
-use Rattle.millwheel_cli.proofs.LivesLeft.{late_task}
+use Rattle.millwheel_cli.proofs.LateTasks.{late_task}
 use Rattle.millwheel_cli.proofs.called.called.Goals as goal
 
 -- a run of threads writes its text at its end

@@ -1,6 +1,6 @@
 use Rattle.std.proofs.Common.{◌≡◌, ◌≤◌, ◌++◌, ℕ, List, length, drop}
 use Rattle.injector.specs.Sources.{Source}
-use Rattle.millwheel_cli.specs.declared.status.Status.{Status}
+use Rattle.task_runs.specs.declared.status.Status.{Status}
 use Rattle.millwheel_cli.specs.Limits.{lines_limit}
 use Rattle.millwheel_cli.specs.Files.{HoldsSources}
 use Rattle.millwheel_cli.specs.Reasons.{IsSourceRefused}

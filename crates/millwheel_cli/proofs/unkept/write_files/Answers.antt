@@ -1,6 +1,6 @@
 use Rattle.std.proofs.Common.{refl, sym, ap, subst}
 use Rattle.millwheel_cli.specs.Reasons.{ShelfSeen}
-use Rattle.millwheel_cli.specs.Answers.{Left}
+use Rattle.task_runs.specs.Answers.{Left}
 use Rattle.millwheel_cli.specs.Inside.{IsTextEnd}
 use Rattle.millwheel_cli.proofs.unkept.write_files.Goals as goal
 

@@ -1,7 +1,7 @@
-use Rattle.std.proofs.Common.{ℕ, List, refl, inl, inr, sym, subst}
+use Rattle.std.proofs.Common.{ℕ, List, refl, inl, inr, subst}
 use Rattle.millwheel_cli.specs.Answers.{IsTextOf}
-use Rattle.millwheel_cli.specs.Inside.{IsWritten}
-use Rattle.millwheel_cli.proofs.Leaving.{text_written, unbegun_of}
+use Rattle.task_runs.specs.Inside.{IsWritten}
+use Rattle.task_runs.proofs.Leaving.{text_written, unbegun_of}
 use Rattle.millwheel_cli.proofs.unkept.write_text.Goals as goal
 
 -- the text was written, or a beginning of it

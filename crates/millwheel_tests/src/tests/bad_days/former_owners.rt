@@ -1,9 +1,10 @@
 //! What owners that were overtaken may still do, and a keeper that fails and is asked again.
-use super::calls::keeper;
-use super::long_files::replays;
 use super::overtaken::{SCRIPTS, sides};
 use super::worlds::do_all;
-use crate::tests::{made, must_hold};
+use crate::tests::calls::{REPLAY, keeper};
+use crate::tests::looks::Look;
+use crate::tests::made;
+use crate::tests::replays::{TEXT, all_are_planned};
 use std::alloc::Global;
 use std::process::Abort;
 
@@ -28,13 +29,17 @@ fn plan(rt: &impl Abort, alloc: Global, script: &str) -> String {
     plan
 }
 
+// Ends the test where a replay of the steps of a script does not write the text of the first example, and names it.
+fn must_replay(rt: &impl Abort, alloc: Global, name: &'static str, script: &str) {
+    let plan = plan(rt, alloc, script);
+    let call = (name, REPLAY, plan.as_str(), Look::Writes(TEXT));
+    all_are_planned(rt, alloc, &[call]);
+    drop(plan);
+}
+
 #[test]
 fn former_owners_change_no_text(rt: HostRuntime) {
     for (name, _, script) in &SCRIPTS {
-        must_hold(
-            &rt,
-            replays(&rt, rt.alloc(), plan(&rt, rt.alloc(), script)),
-            *name,
-        );
+        must_replay(&rt, rt.alloc(), name, script);
     }
 }

@@ -1,7 +1,5 @@
 //! Keepers that show a row which the run did not write.
-use super::calls::{called, shelf};
-use super::files::FIRST;
-use crate::tests::calls::sink as ample;
+use crate::tests::calls::{FIRST, SOLO, called, sink};
 use crate::tests::{key, made, must_hold};
 use hex::decode;
 use millwheel_cli::Status;
@@ -108,18 +106,15 @@ static LIES: [(&str, bool, Shown); 10] = [
     ),
 ];
 
-// The digits of a row's fields.
-fn digits(rt: &impl Abort, alloc: Global, fields: &str) -> String {
-    let mut text = String::new(alloc);
+// The bytes of a row's fields.
+fn bytes(rt: &impl Abort, alloc: Global, fields: &str) -> Bytes {
+    let mut digits = String::new(alloc);
     for field in fields.split(' ') {
-        made(rt, text.push_str(field));
+        made(rt, digits.push_str(field));
     }
-    text
-}
-
-// The bytes of digits.
-fn bytes(rt: &impl Abort, alloc: Global, digits: String) -> Bytes {
-    Bytes::from_vec(made(rt, decode(alloc, digits.as_str())))
+    let bytes = made(rt, decode(alloc, digits.as_str()));
+    drop(digits);
+    Bytes::from_vec(bytes)
 }
 
 // A row as a keeper has it.
@@ -130,7 +125,7 @@ fn row(rt: &impl Abort, alloc: Global, shown: &Shown) -> KeptRow {
             part,
             key: key(rt, alloc, text),
         },
-        bytes: bytes(rt, alloc, digits(rt, alloc, fields)),
+        bytes: bytes(rt, alloc, fields),
     }
 }
 
@@ -161,10 +156,9 @@ fn is_told(rt: &impl Abort, alloc: Global, status: &Status, shown: &Shown, fits:
 
 // Whether the run of the first example over a keeper that shows the row ends so.
 fn ends_so(rt: &impl Abort, alloc: Global, shown: &Shown, fits: bool) -> bool {
-    let mut out = ample(alloc);
-    let shelf = shelf(rt, alloc, FIRST, &[]);
+    let mut out = sink(alloc);
     let liar = made(rt, liar(alloc, row(rt, alloc, shown)));
-    let done = called(rt, alloc, "solo t.json e", shelf, liar, &mut out);
+    let done = called(rt, alloc, SOLO, FIRST, &[], liar, &mut out);
     drop(out);
     let is_told = is_told(rt, alloc, &done.status, shown, fits);
     drop(done);

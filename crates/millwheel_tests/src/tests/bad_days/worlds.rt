@@ -11,7 +11,7 @@ use crate::tests::made;
 use crate::tests::topologies::COUNT;
 use book::Book;
 use computations::Kinds;
-use injector::{Items, ItemsList, read_lines};
+use injector::{ItemsList, read_lines};
 use mw_types::NoMemory;
 use node::{NodeFault, Outcome};
 use row_keeper::{Keeper, MemKeeper};
@@ -34,21 +34,17 @@ fn topology(rt: &impl Abort, alloc: Global) -> Topology
     topology
 }
 
-// Its lines.
-fn lines(rt: &impl Abort, alloc: Global) -> Items {
-    let bytes = EVENTS.as_bytes();
-    if bytes.len() > 1 << 20 {
-        rt.panic("too long")
-    }
-    made(rt, read_lines(alloc, bytes, 1 << 18))
-}
-
 // Its lines, as those of the one injector.
 fn items(rt: &impl Abort, alloc: Global) -> ItemsList
     ensures { length result ≡ 1 }
 {
+    let bytes = EVENTS.as_bytes();
+    if bytes.len() > 1 << 20 {
+        rt.panic("too long")
+    }
+    let lines = made(rt, read_lines(alloc, bytes, 1 << 18));
     let mut items = ItemsList::new(alloc);
-    made(rt, items.push(lines(rt, alloc)));
+    made(rt, items.push(lines));
     items
 }
 
@@ -144,14 +140,6 @@ fn fault_said(fault: &NodeFault) -> Said {
     }
 }
 
-// How a script has what a step answers.
-fn step_said(answer: &Result<Outcome, NodeFault>) -> Said {
-    match answer {
-        Ok(outcome) => outcome_said(outcome),
-        Err(fault) => fault_said(fault),
-    }
-}
-
 // How a script has the floor of the last entry.
 fn floor_said(history: &History) -> Said {
     match history.get(history.len().wrapping_sub(1)) {
@@ -182,7 +170,10 @@ fn said(
         return floor_said(world.book().history());
     }
     let answer = answer(rt, alloc, world, asked);
-    let said = step_said(&answer);
+    let said = match &answer {
+        Ok(outcome) => outcome_said(outcome),
+        Err(fault) => fault_said(fault),
+    };
     drop(answer);
     said
 }

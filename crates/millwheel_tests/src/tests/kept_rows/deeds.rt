@@ -1,9 +1,10 @@
 //! What is done with a keeper, whatever keeper it is.
 use super::refusal_of;
-use crate::tests::{key, made};
+use crate::tests::calls::put;
+use crate::tests::key;
+use crate::tests::looks::{Row, are_rows};
 use key_intervals::Bounds;
-use mw_types::{Key, RowName};
-use row_keeper::{Keeper, KeeperFault, KeptRow, KeptRowList};
+use row_keeper::{Keeper, KeeperFault, KeptRowList};
 use std::alloc::Global;
 use std::process::Abort;
 
@@ -36,7 +37,9 @@ pub(super) fn is_done(
     match deed {
         Deed::PutsSeven => {
             let was_empty = first(alloc, keeper) == Ok(0);
-            fill(rt, alloc, keeper);
+            for (text, byte) in &ROWS {
+                put(rt, alloc, keeper, text, *byte);
+            }
             was_empty && has_seven(rt, alloc, keeper)
         }
         Deed::HasSeven => has_seven(rt, alloc, keeper),
@@ -47,25 +50,16 @@ pub(super) fn is_done(
             true
         }
         Deed::HasFirst(byte) => {
-            first(alloc, keeper) == Ok(byte) && refusal_of(scanned(rt, alloc, keeper)).is_none()
+            let fault = refusal_of(scanned(rt, alloc, keeper, "h", "q"));
+            fault.is_none() && first(alloc, keeper) == Ok(byte)
         }
-        Deed::HasOne(bytes) => has_one(alloc, keeper, bytes),
+        Deed::HasOne(bytes) => are_found(scanned(rt, alloc, keeper, "", ""), &[(1, "a", bytes)]),
         Deed::FailsTwice => {
-            let fault = refusal_of(scanned(rt, alloc, keeper));
-            fault == Some(KeeperFault::Failed) && first_fails(alloc, keeper)
+            let fault = refusal_of(scanned(rt, alloc, keeper, "h", "q"));
+            fault == Some(KeeperFault::Failed) && first(alloc, keeper) == Err(KeeperFault::Failed)
         }
-        Deed::Fails => first_fails(alloc, keeper),
+        Deed::Fails => first(alloc, keeper) == Err(KeeperFault::Failed),
     }
-}
-
-// Puts a row of part 1 with one byte.
-fn put(rt: &impl Abort, alloc: Global, keeper: &mut impl Keeper, text: &str, byte: u8) {
-    let name = RowName {
-        part: 1,
-        key: key(rt, alloc, text),
-    };
-    made(rt, keeper.put(alloc, &name, &[byte]));
-    drop(name);
 }
 
 // The keys and the bytes of seven rows, the last in the place of an earlier one.
@@ -79,17 +73,13 @@ static ROWS: [(&str, u8); 7] = [
     ("h", 7),
 ];
 
-// Puts them.
-fn fill(rt: &impl Abort, alloc: Global, keeper: &mut impl Keeper) {
-    for (text, byte) in &ROWS {
-        put(rt, alloc, keeper, text, *byte);
-    }
-}
+// Those of them that stand from h to q.
+static FROM_H_TO_Q: [Row<'static>; 3] = [(1, "h", b"\x07"), (1, "hi", b"\x04"), (1, "pz", b"\x02")];
 
 // Whether the first of these rows is there, and those from h to q are.
 fn has_seven(rt: &impl Abort, alloc: Global, keeper: &mut impl Keeper) -> bool {
     let is_first = first(alloc, keeper) == Ok(5);
-    are_bytes(scanned(rt, alloc, keeper), b"\x07\x04\x02") && is_first
+    are_found(scanned(rt, alloc, keeper, "h", "q"), &FROM_H_TO_Q) && is_first
 }
 
 // The byte of the first row, or 0 where there is none.
@@ -101,77 +91,32 @@ fn first(alloc: Global, keeper: &mut impl Keeper) -> Result<u8, KeeperFault> {
     }
 }
 
-// Whether a look for the first row fails, and not for want of memory.
-fn first_fails(alloc: Global, keeper: &mut impl Keeper) -> bool {
-    first(alloc, keeper) == Err(KeeperFault::Failed)
-}
-
-// The rows from h to q.
+// The rows of part 1 from one key to another, or where this is the empty one, to the end.
 fn scanned(
     rt: &impl Abort,
     alloc: Global,
     keeper: &mut impl Keeper,
+    from: &str,
+    to: &str,
 ) -> Result<KeptRowList, KeeperFault> {
-    let bounds = Bounds {
-        part: 1,
-        from: key(rt, alloc, "h"),
-        to: Some(key(rt, alloc, "q")),
+    let from = key(rt, alloc, from);
+    let to = if to.is_empty() {
+        None
+    } else {
+        Some(key(rt, alloc, to))
     };
+    let bounds = Bounds { part: 1, from, to };
     let found = keeper.scan(alloc, &bounds);
     drop(bounds);
     found
 }
 
-// Whether a scan found rows of these bytes, of which each has one.
-fn are_bytes(found: Result<KeptRowList, KeeperFault>, want: &[u8]) -> bool {
+// Whether a scan found these rows.
+fn are_found(found: Result<KeptRowList, KeeperFault>, want: &[Row<'_>]) -> bool {
     let are = match &found {
-        Ok(rows) => are_those(rows.as_slice(), want),
+        Ok(rows) => are_rows(rows.as_slice(), want),
         Err(_) => false,
     };
     drop(found);
     are
-}
-
-// Whether these are the bytes of rows, of which each has one.
-fn are_those(rows: &[KeptRow], want: &[u8]) -> bool {
-    let mut are = rows.len() == want.len();
-    for (at, row) in rows.iter().enumerate() {
-        are = are && row.bytes.len() == 1 && row.bytes.get(0) == want.get(at);
-    }
-    are
-}
-
-// Whether part 1 has one row, whose key is `a`, with these bytes.
-fn has_one(alloc: Global, keeper: &mut impl Keeper, bytes: &[u8]) -> bool {
-    let whole = Bounds {
-        part: 1,
-        from: Key::none(alloc),
-        to: None,
-    };
-    let found = keeper.scan(alloc, &whole);
-    drop(whole);
-    is_one(found, bytes)
-}
-
-// Whether a scan found one row, of part 1 with the key `a` and these bytes.
-fn is_one(found: Result<KeptRowList, KeeperFault>, bytes: &[u8]) -> bool {
-    let is_one = match &found {
-        Ok(rows) => rows.len() == 1 && is_first(rows.as_slice(), bytes),
-        Err(_) => false,
-    };
-    drop(found);
-    is_one
-}
-
-// Whether the first row is of part 1, with the key `a` and these bytes.
-fn is_first(rows: &[KeptRow], bytes: &[u8]) -> bool {
-    match rows.first() {
-        Some(row) => is_a(&row.name) && row.bytes.as_slice() == bytes,
-        None => false,
-    }
-}
-
-// Whether a row is of part 1, with the key `a`.
-fn is_a(name: &RowName) -> bool {
-    name.part == 1 && name.key.text() == "a"
 }

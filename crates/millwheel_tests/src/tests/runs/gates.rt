@@ -1,8 +1,9 @@
 //! A gate that holds workers, so that two have to run beside each other.
-use super::calls::{called, keeper};
-use super::looks::{is_ok, is_solo};
-use crate::tests::calls::sink;
+use super::Files;
+use crate::tests::calls::{SOLO, keeper, sink};
+use crate::tests::looks::Look;
 use crate::tests::must_hold;
+use crate::tests::threads::{seen, seen_at};
 use crate::tests::topologies::CUTS;
 use mw_ports::{Gate, Point};
 use std::alloc::Global;
@@ -11,6 +12,9 @@ use std::sync::Wait;
 use std::sync::atomic::{AtomicU64, Ordering};
 use std::thread;
 use std::thread::Threads;
+
+// The files of the held run.
+const FILES: Files<'static> = (CUTS, b"", 60);
 
 // Worker 0 has ended its first turn.
 const ENDED: u64 = 1;
@@ -30,15 +34,6 @@ struct Held {
 }
 
 impl Held {
-    // A gate at which nobody was yet.
-    fn new() -> Held {
-        Held {
-            happened: AtomicU64::new(0),
-            begun: AtomicU64::new(0),
-            expired: AtomicU64::new(0),
-        }
-    }
-
     // Says that something has happened.
     fn tell(&self, what: u64) {
         let _before = self.happened.fetch_or(what, Ordering::SeqCst);
@@ -71,54 +66,49 @@ impl Held {
             self.hold(COMMITTED);
         }
     }
-
-    // Where a worker is about to commit.
-    fn before_commit(&self, worker: u32) {
-        if worker == 1 && self.is_first(8) {
-            self.tell(CAME);
-            self.hold(COMMITTED);
-        }
-    }
-
-    // Where a worker ends its turn.
-    fn end(&self, worker: u32) {
-        if worker == 2 && self.is_first(16) {
-            self.hold(CAME);
-        } else if worker == 0 {
-            self.tell(ENDED);
-        }
-    }
 }
 
 impl Gate for Held {
     fn at(&self, worker: u32, point: Point) {
         match point {
             Point::Begin => self.begin(worker),
-            Point::BeforeCommit => self.before_commit(worker),
+            Point::BeforeCommit => {
+                if worker == 1 && self.is_first(8) {
+                    self.tell(CAME);
+                    self.hold(COMMITTED);
+                }
+            }
             Point::AfterCommit => {
                 if worker == 2 {
                     self.tell(COMMITTED);
                 }
             }
-            Point::End => self.end(worker),
+            Point::End => {
+                if worker == 2 && self.is_first(16) {
+                    self.hold(CAME);
+                } else if worker == 0 {
+                    self.tell(ENDED);
+                }
+            }
         }
     }
 }
 
-// Whether each hold was begun, and ended by what it waited for.
-fn was_met(gate: &Held) -> bool {
-    gate.expired.load(Ordering::SeqCst) == 0 && gate.begun.load(Ordering::SeqCst) == 31
-}
-
-// Whether the held run ends with Ok and the text of one thread, and each hold ended by what it waited for.
+// Whether the held run ends with Ok and the text of one thread, and each hold was begun, and ended by what it waited for.
 fn ends_by_its_events<R: Threads + Wait + Abort + Sync>(rt: &R, alloc: Global) -> bool {
-    let gate = Held::new();
+    let gate = Held {
+        happened: AtomicU64::new(0),
+        begun: AtomicU64::new(0),
+        expired: AtomicU64::new(0),
+    };
     let mut out = sink(alloc);
     let line = "run --workers 4 --rounds 8 t.json e";
     let keeper = keeper(rt, alloc, &[]);
-    let is_ok = is_ok(called(rt, alloc, line, (CUTS, ""), keeper, &mut out, &gate));
-    let is_met = was_met(&gate);
-    let is_same = is_solo(rt, alloc, "solo t.json e", (CUTS, ""), out.text());
+    let is_ok = seen_at(rt, alloc, line, FILES, keeper, &mut out, &gate, Look::Ends);
+    let has_expired = gate.expired.load(Ordering::SeqCst) != 0;
+    let is_met = gate.begun.load(Ordering::SeqCst) == 31 && !has_expired;
+    let look = Look::WritesBytes(out.text());
+    let is_same = seen(rt, alloc, SOLO, FILES, &[], look);
     drop(out);
     is_ok && is_met && is_same
 }

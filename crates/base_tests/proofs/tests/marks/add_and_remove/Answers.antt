@@ -1,5 +1,0 @@
-use Rattle.watermark.proofs.Held.{held-added}
-use Rattle.base_tests.proofs.tests.marks.add_and_remove.Goals as goal
-
-pub remove-requires : goal.remove-requires
-remove-requires c = record { held = held-added _ _ _ c.in_ok-add.ensures.added }

@@ -1,6 +1,0 @@
-use Rattle.std.proofs.Common.{◌≡◌, length}
-use Rattle.base_tests.proofs.tests.marks.no_lines.Given as goal
-
--- as many as the loop has counted
-abbrev pub invariant-loop : goal.invariant-loop
-invariant-loop g l = length l.items ≡ l.counter
