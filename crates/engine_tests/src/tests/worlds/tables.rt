@@ -228,8 +228,9 @@ fn wrong_of(rt: &impl Abort, alloc: Global, case: &Case, table: &Table) -> u64 {
             wrong_over(rt, alloc, case, in_memory(rt, alloc, calls), MOST, lines)
         }
         Over::Full(limit) => {
-            let keeper = in_memory(rt, alloc, &[]);
-            wrong_over(rt, alloc, case, keeper, u64::from(limit), lines)
+            let limit = u64::from(limit);
+            assert!(rt; limit <= MOST, "a book takes fewer entries");
+            wrong_over(rt, alloc, case, in_memory(rt, alloc, &[]), limit, lines)
         }
         Over::Blind(shown) => {
             wrong_over(rt, alloc, case, blind(rt, alloc, 1, shown), MOST, lines)
