@@ -12,7 +12,6 @@ pub mod SenderSteps
 pub mod SenderFloors
 pub mod SenderParts
 pub mod SentLaws
-pub mod Growing
 pub mod Changing
 pub mod ProposalLaws
 pub mod Numbers

@@ -32,7 +32,7 @@ pub(crate) struct Change {
     pub(crate) moves: Moves,
 }
 
-// What a proposal changes, under the number of its entry.
+// What a proposal changes under a lease, and the number of its entry.
 pub(crate) fn change_of(
     alloc: Global,
     case: &Case,
@@ -51,7 +51,28 @@ pub(crate) fn change_of(
     ensures left { IfOk result (λ change. moved change.moves row.now
         ≡ left_by case.now.topology name.now proposal.now commit change.entry row.now) }
 {
-    let seq = lease.seq();
+    change_under(alloc, case, lease.seq(), name, row, proposal, commit)
+}
+
+// What a proposal changes, under a sequencer and the number of its entry.
+pub(crate) fn change_under(
+    alloc: Global,
+    case: &Case,
+    seq: u64,
+    name: &RowName,
+    row: &Row,
+    proposal: &Proposal,
+    commit: u64,
+) -> Result<Change, NoMemory>
+    requires proposal { IsProposable case.now name.now row.now proposal.now }
+    requires fit { fits case.now commit name.now row.now ≡ true }
+    requires commit { commit < 2 ^ 32 }
+    ensures entry { IfOk result (λ change.
+        IsEntryOf case.now seq name.now proposal.now change.entry) }
+    ensures may { IfOk result (λ change. MayMove row.now change.moves) }
+    ensures left { IfOk result (λ change. moved change.moves row.now
+        ≡ left_by case.now.topology name.now proposal.now commit change.entry row.now) }
+{
     match proposal {
         Proposal::Inject { line } => injecting(alloc, case, seq, name, row, *line, commit),
         Proposal::Handle { delivery, effects } => {
@@ -277,11 +298,11 @@ fn sending(
     requires id { IfSome id IsId }
     requires new { IfSome id (λ id. is_finished id row.now ≡ false) }
     ensures may { IfOk result (MayMove row.now) }
-    ensures left { let sent = deliveries_made case.now.topology name.now.part made.now late commit in
+    ensures left { let ds = deliveries_made case.now.topology name.now.part made.now late commit in
         IfOk result (λ moves. moved moves row.now ≡ record row.now {
           state = state;
           timers = unwrap_or timers row.now.timers;
-          pending = row.now.pending ++ sent;
+          pending = row.now.pending ++ ds;
           seen = with_ids id row.now.seen;
           last = commit;
         }) }

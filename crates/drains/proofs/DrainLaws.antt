@@ -17,7 +17,7 @@ use Rattle.book.specs.Senders.{IsLeastSent}
 use Rattle.book.specs.Books.{BookView, core_of}
 use Rattle.book.specs.Lawful.{IsLawful}
 use Rattle.node.specs.Asking.{MayAskForget}
-use Rattle.node.specs.Messages.{IsComputation}
+use Rattle.outbox.specs.Messages.{IsComputation}
 use Rattle.node.specs.Workers.{NodeView}
 use Rattle.drains.specs.Drains.{HasEnded}
 use Rattle.drains.specs.Standings.{IsFound}

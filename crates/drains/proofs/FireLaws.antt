@@ -32,7 +32,7 @@ use Rattle.book.specs.Lawful.{IsLawful}
 use Rattle.holdings.specs.Holding.{row_held}
 use Rattle.holdings.specs.Timers.{due_cmp}
 use Rattle.node.specs.Asking.{IsNextTimer, IsTimerHeld, MayAskFire, Request}
-use Rattle.node.specs.Messages.{IsComputation}
+use Rattle.outbox.specs.Messages.{IsComputation}
 use Rattle.node.specs.Workers.{NodeView}
 use Rattle.drains.specs.Drains.{HasClaimedAll, IsDue, IsNextEntry}
 use Rattle.drains.specs.Turns.{AreExact, HasAsked, HasAskedOne, HasTurned, IsAtWork, IsQuietAt, IsSettled}

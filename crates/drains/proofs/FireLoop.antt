@@ -11,7 +11,7 @@ use Rattle.watermark.specs.Marks.{marks_of}
 use Rattle.book.specs.Books.{BookView, core_of}
 use Rattle.book.specs.Lawful.{IsLawful}
 use Rattle.node.specs.Asking.{MayAskFire}
-use Rattle.node.specs.Messages.{IsComputation}
+use Rattle.outbox.specs.Messages.{IsComputation}
 use Rattle.node.specs.Workers.{NodeView}
 use Rattle.drains.specs.Turns.{AreExact, HasAskedOne, HasStepped, HasTurned, IsAtWork, IsQuiet, IsQuietAt, IsSettled}
 use Rattle.drains.proofs.FireLaws.{fire-quiet, fire-turned}

@@ -23,7 +23,7 @@ use Rattle.book.specs.Books.{BookView}
 use Rattle.book.specs.Senders.{IsLeastSent}
 use Rattle.holdings.specs.Holding.{HeldView, held_on, row_held}
 use Rattle.node.specs.Asking.{HasToForget, MayAskForget, Request, settle_asked, settling}
-use Rattle.node.specs.Messages.{IsComputation}
+use Rattle.outbox.specs.Messages.{IsComputation}
 use Rattle.node.specs.Workers.{NodeView}
 use Rattle.drains.specs.Drains.{HasClaimedAll, IsNextEntry, IsToHandle, is_full}
 use Rattle.drains.specs.Standings.{IsFound}

@@ -1,11 +1,10 @@
 //! What a drain does where all is acknowledged: the low watermarks are found, and a due timer fires.
-ghost use Rattle.std.specs.Prelude.{◌≡◌, ◌<◌, ◌≤◌, ◌+◌, ℕ, IfErr, IfOk, OnOk, OnErr, None, true, false, length};
+ghost use Rattle.std.specs.Prelude.{◌≡◌, ◌<◌, ◌≤◌, IfErr, IfOk, OnOk, None, true, false};
 ghost use Rattle.topology.specs.Rules.{interval_count};
-ghost use Rattle.run_history.specs.Cases.{intervals_of};
 ghost use Rattle.run_history.specs.Fences.{interval_of};
 ghost use Rattle.run_history.specs.Runs.{run_of};
 ghost use Rattle.node.specs.Works.{IsWorkOf};
-ghost use Rattle.node.specs.Messages.{IsComputation};
+ghost use Rattle.outbox.specs.Messages.{IsComputation};
 ghost use Rattle.run_history.specs.Watermarks.{least};
 ghost use Rattle.book.specs.Books.{core_of};
 ghost use Rattle.book.specs.Lawful.{IsLawful};
@@ -13,7 +12,7 @@ ghost use Rattle.watermark.specs.Marks.{marks_of};
 ghost use Rattle.node.specs.Asking.{IsNextTimer, MayAskFire};
 ghost use Rattle.node.specs.FireSteps.{IsLeftByHandler, IsSetAt, IsTimerToFire};
 ghost use Rattle.drains.specs.ReportRounds.{marks_after_round};
-ghost use Rattle.drains.specs.Turns.{AreExact, HasAskedOne, HasFailed, HasReported, HasStepped, HasTurned, IsAtWork, IsFullAsking, IsFullUnended, IsOwnOf, IsQuiet, IsQuietAt, IsSettled, WhereTold, worker_of};
+ghost use Rattle.drains.specs.Turns.{AreExact, HasAskedOne, HasFailed, HasReported, HasStepped, HasTurned, IsAtWork, IsFullAsking, IsFullUnended, IsOwnOf, IsQuiet, IsSettled, WhereTold, worker_of};
 
 use crate::writes::write;
 use book::{Book, Desk, OwnDesk, Proposal};

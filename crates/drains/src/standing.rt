@@ -3,7 +3,7 @@ ghost use Rattle.std.specs.Prelude.{◌≡◌, ◌≤◌, IfOk, Some};
 ghost use Rattle.mw_types.specs.declared.TheConstants.{MAX_STAMP};
 ghost use Rattle.run_history.specs.Fences.{interval_of};
 ghost use Rattle.run_history.specs.Runs.{run_of};
-ghost use Rattle.node.specs.Messages.{IsComputation};
+ghost use Rattle.outbox.specs.Messages.{IsComputation};
 ghost use Rattle.node.specs.Works.{IsStateThere, IsWorkOf};
 ghost use Rattle.drains.specs.Drains.{is_full};
 ghost use Rattle.drains.specs.Standings.{IsStandingIn, StandsIn};

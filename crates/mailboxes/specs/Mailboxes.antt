@@ -3,7 +3,7 @@ use Rattle.std.specs.Prelude.{◌≡◌, ◌+◌, ◌∷◌, [], ℕ, suc, List,
 use mathlib.Core.Option.{some}
 use lib.ListN.{get_elem?}
 use Rattle.topology.specs.Shapes.{Shape}
-use Rattle.node.specs.Messages.{IsAddressed}
+use Rattle.outbox.specs.Messages.{IsAddressed}
 use Rattle.node.specs.Received.{note_of, outgoing_of}
 use Rattle.node.specs.declared.message.Message.{Message}
 use Rattle.mailboxes.specs.declared.hand.Hand.{Hand}

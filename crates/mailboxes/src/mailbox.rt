@@ -1,7 +1,7 @@
 //! A mailbox.
 ghost use Rattle.std.specs.Prelude.{◌≡◌, ◌<◌, ◌≤◌, length, All, IfErr, IfNone, IfOk, IfSome, OnErr, OnOk};
 ghost use Rattle.crossbeam_queue.specs.Passes.{IsPassOf, ruled_capacity, view};
-ghost use Rattle.node.specs.Messages.{IsAddressed};
+ghost use Rattle.outbox.specs.Messages.{IsAddressed};
 ghost use Rattle.node.specs.Received.{note_of, outgoing_of};
 ghost use Rattle.mailboxes.specs.Mailboxes.{HasHeld, IsLeft, with_put, with_take};
 ghost use Rattle.mailboxes.specs.PassLists.{AllFrom, IsLonePass, IsNewPass};

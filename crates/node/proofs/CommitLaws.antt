@@ -36,12 +36,12 @@ use Rattle.holdings.specs.Holding.{AreAllHeld, HeldView, HoldsEntry, held_at, he
 use Rattle.node.specs.Answers.{AnswersAsked, HasGrown, IsCommitted, made_of}
 use Rattle.node.specs.Asking.{Request, handled_as, proposed, work_asked}
 use Rattle.node.specs.Fits.{Fits, IsHandled, IsPrepared, IsWork}
-use Rattle.node.specs.Messages.{IsAddressed, IsOutgoing, IsSentFrom}
-use Rattle.node.specs.Workers.{NodeView, Sending, Worker, WorkView, leases_of, messages_from, sending_in, sending_of, with_outgoing, with_written, worker_at}
+use Rattle.outbox.specs.Messages.{IsAddressed, IsOutgoing, IsSentFrom, messages_from}
+use Rattle.node.specs.Workers.{NodeView, Sending, Worker, WorkView, leases_of, sending_in, sending_of, with_outgoing, with_written, worker_at}
 use Rattle.node.specs.declared.outcome.Outcome.TheVariants as outcomes
-use Rattle.node.specs.declared.outgoing.Outgoing.TheVariants as outgoing
+use Rattle.outbox.specs.declared.outgoing.Outgoing.TheVariants as outgoing
 use Rattle.node.proofs.FitLaws.{HasMore, more-appended, outbox-more}
-use Rattle.node.proofs.SendLaws.{made-late, made-outgoing}
+use Rattle.outbox.proofs.SendLaws.{made-late, made-outgoing}
 use Rattle.node.proofs.StateLaws.{few-handled, state-held}
 use Rattle.node.proofs.PurgeLaws.{held-at-on, held-on-at}
 

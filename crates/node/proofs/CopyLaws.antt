@@ -21,8 +21,8 @@ use Rattle.history_laws.proofs.SeenLaws.{found-more}
 use Rattle.book.specs.Desks.{DeskView, IsSound}
 use Rattle.book.proofs.SeenRows.{told-both, told-then}
 use Rattle.holdings.specs.Holding.{AreAllHeld, HeldView, held_on, row_held}
-use Rattle.node.specs.Messages.{IsOutgoing, IsSentFrom}
-use Rattle.node.specs.declared.outgoing.Outgoing.TheVariants as outgoing
+use Rattle.outbox.specs.Messages.{IsOutgoing, IsSentFrom}
+use Rattle.outbox.specs.declared.outgoing.Outgoing.TheVariants as outgoing
 use Rattle.node.proofs.FitLaws.{held-interval}
 
 -- a record that is finished in its row as it is known was handled

@@ -33,8 +33,8 @@ use Rattle.node.specs.Answers.{AnswersFire, AnswersSome, FailsFire, FailsSome, H
 use Rattle.node.specs.Asking.{IsNextTimer, MayAskFire, Request}
 use Rattle.node.specs.FireSteps.{HoldsFire, IsSetAt, IsTimerToFire}
 use Rattle.node.specs.Fits.{Fits, IsWork}
-use Rattle.node.specs.Messages.{IsAddressed, IsComputation, IsOutgoing}
-use Rattle.node.specs.Workers.{NodeView, WorkView, messages_from, with_outgoing, worker_at}
+use Rattle.outbox.specs.Messages.{IsAddressed, IsComputation, IsOutgoing, messages_from}
+use Rattle.node.specs.Workers.{NodeView, WorkView, with_outgoing, worker_at}
 use Rattle.node.specs.Works.{IsStateThere}
 use Rattle.node.specs.declared.outcome.NodeFault.{NodeFault}
 use Rattle.node.specs.declared.outcome.Outcome.{Outcome}
@@ -43,7 +43,7 @@ use Rattle.node.proofs.CommitLaws.{IsAppended, committed, grown-by, leases-writt
 use Rattle.node.proofs.FitLaws.{outbox-more}
 use Rattle.node.proofs.PurgeLaws.{held-at-on, ok-answers}
 use Rattle.node.proofs.LookLaws.{err-fails, fault-later, some-later}
-use Rattle.node.proofs.SendLaws.{made-outgoing}
+use Rattle.outbox.proofs.SendLaws.{made-outgoing}
 use Rattle.node.proofs.StateLaws.{state-held}
 
 -- ---- a timer that is the first of its row

@@ -33,12 +33,12 @@ use Rattle.holdings.proofs.HeldSteps.{AreAllHeld-beside, unasked, AreAllHeld-few
 use Rattle.node.specs.Answers.{AnswersClaim, AnswersWrite, FailsAsked, HasGrown, HasKept, IsRefused, refusal_of}
 use Rattle.node.specs.Asking.{Request}
 use Rattle.node.specs.Fits.{Fits, IsHandled, IsPrepared, IsWork}
-use Rattle.node.specs.Messages.{IsOutgoing, IsSoIn}
+use Rattle.outbox.specs.Messages.{IsOutgoing, IsSoIn}
 use Rattle.node.specs.Steps.{HasLetGo, HasYielded, answered, is_work_in, work_beside}
 use Rattle.node.specs.Workers.{NodeView, Sending, Worker, WorkView, goes_into, leases_of, sending_in, where_passes, with_lease, worker_at}
 use Rattle.node.specs.declared.outcome.NodeFault.TheVariants as faults
-use Rattle.node.specs.declared.outgoing.Outgoing.{Outgoing}
-use Rattle.node.specs.declared.outgoing.Outgoing.TheVariants as outgoing
+use Rattle.outbox.specs.declared.outgoing.Outgoing.{Outgoing}
+use Rattle.outbox.specs.declared.outgoing.Outgoing.TheVariants as outgoing
 
 -- ---- a desk that has seen more
 

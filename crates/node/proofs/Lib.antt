@@ -9,7 +9,6 @@ pub mod FiringLaws
 pub mod PurgeLaws
 pub mod RefusedLaws
 pub mod ReportLaws
-pub mod SendLaws
 pub mod StateLaws
 pub mod SweepLaws
 pub mod CommitLaws

@@ -31,17 +31,17 @@ use Rattle.node.specs.Answers.{AnswersAsked, AnswersWrite, FailsAsked, HasGrown,
 use Rattle.node.specs.Asking.{Request, line_asked, next_line}
 use Rattle.node.specs.Fits.{Fits, IsHandled, IsPrepared, IsWork}
 use Rattle.node.specs.LineSteps.{HoldsLine, IsLineNext, injector_row, line_deliveries}
-use Rattle.node.specs.Messages.{IsAddressed, IsOutgoing}
+use Rattle.outbox.specs.Messages.{IsAddressed, IsOutgoing, messages_from}
 use Rattle.node.specs.Steps.{HasYielded, answered}
-use Rattle.node.specs.Workers.{NodeView, WorkView, messages_from, with_outgoing, worker_at}
+use Rattle.node.specs.Workers.{NodeView, WorkView, with_outgoing, worker_at}
 use Rattle.node.specs.declared.outcome.Outcome.TheVariants as outcomes
-use Rattle.node.specs.declared.outgoing.Outgoing.TheVariants as outgoing
+use Rattle.outbox.specs.declared.outgoing.Outgoing.TheVariants as outgoing
 use Rattle.node.proofs.CommitLaws.{IsAppended, committed, grown-by, leases-written, more-by}
 use Rattle.node.proofs.FiringLaws.{small-number}
 use Rattle.node.proofs.FitLaws.{HasMore, fails-refused, held-interval, outbox-more, outgoing-more}
 use Rattle.node.proofs.PurgeLaws.{ok-answers, held-at-on}
 use Rattle.node.proofs.RefusedLaws.{reason-at, refused-held}
-use Rattle.node.proofs.SendLaws.{made-outgoing}
+use Rattle.outbox.proofs.SendLaws.{made-outgoing}
 use Rattle.node.proofs.SettleLaws.{fails-asked}
 
 -- ---- what is asked

@@ -9,11 +9,11 @@ use Rattle.list_lemmas.proofs.Lists.{none_some, some_same}
 use Rattle.book.specs.Desks.{DeskView, HasLooked, IsNoteOf, IsSound, Sight}
 use Rattle.holdings.proofs.HeldSteps.{AreAllHeld-looked}
 use Rattle.node.specs.Fits.{Fits}
-use Rattle.node.specs.Messages.{IsOutgoing, IsSoBy, IsSoIn, IsVouchedFor}
+use Rattle.outbox.specs.Messages.{IsOutgoing, IsSoBy, IsSoIn, IsVouchedFor}
 use Rattle.node.specs.Received.{where_record}
 use Rattle.node.specs.Workers.{NodeView}
-use Rattle.node.specs.declared.outgoing.Outgoing.{Outgoing}
-use Rattle.node.specs.declared.outgoing.Outgoing.TheVariants as outgoing
+use Rattle.outbox.specs.declared.outgoing.Outgoing.{Outgoing}
+use Rattle.outbox.specs.declared.outgoing.Outgoing.TheVariants as outgoing
 use Rattle.node.proofs.FitLaws.{Fits-kept, more-looked, keeps-same}
 
 -- ---- a desk that looked

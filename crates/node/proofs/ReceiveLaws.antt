@@ -17,12 +17,12 @@ use Rattle.book.specs.declared.proposal.Proposal.TheVariants as proposals
 use Rattle.holdings.specs.Holding.{HeldView, held_on, row_held}
 use Rattle.node.specs.Answers.{received}
 use Rattle.node.specs.Fits.{Fits}
-use Rattle.node.specs.Messages.{IsDeliverable, IsOutgoing, IsSoBy, IsSoIn, IsVouchedFor}
+use Rattle.outbox.specs.Messages.{IsDeliverable, IsOutgoing, IsSoBy, IsSoIn, IsVouchedFor}
 use Rattle.node.specs.Workers.{NodeView, Worker, worker_at}
 use Rattle.node.specs.declared.outcome.Outcome.{Outcome}
 use Rattle.node.specs.declared.outcome.Outcome.TheVariants as outcomes
-use Rattle.node.specs.declared.outgoing.Outgoing.{Outgoing}
-use Rattle.node.specs.declared.outgoing.Outgoing.TheVariants as outgoing
+use Rattle.outbox.specs.declared.outgoing.Outgoing.{Outgoing}
+use Rattle.outbox.specs.declared.outgoing.Outgoing.TheVariants as outgoing
 use Rattle.node.proofs.FitLaws.{so-more}
 
 -- ---- what a message says, once its note was met

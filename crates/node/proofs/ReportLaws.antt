@@ -1,45 +1,38 @@
 -- What a report answers, and what it leaves of a node.
-use Rattle.std.proofs.Common.{◌≡◌, ◌∙◌, ℕ, true, List, refl, sym, ap, subst}
-use Rattle.std.specs.Prelude.{IfErr, IfOk, Option, Some, Result, slice_get}
-use Rattle.key_intervals.specs.declared.bounds.Bounds.{Bounds}
+use Rattle.std.proofs.Common.{◌≡◌, ◌∙◌, ℕ, List, refl, sym, ap, subst}
+use Rattle.std.specs.Prelude.{IfErr, IfOk, IfSome, IsSome, Option, Some, None, slice_get}
 use Rattle.run_history.specs.Cases.{CaseShape, intervals_of}
-use Rattle.run_history.specs.Marks.{own_work}
-use Rattle.run_history.specs.Runs.{cached}
-use Rattle.watermark.specs.Marks.{mark_of}
 use Rattle.book.specs.DeskReasons.{HasReason, IsReportRefusal}
-use Rattle.book.specs.Desking.{IsReported}
 use Rattle.book.specs.Desks.{DeskView, HasLooked}
 use Rattle.book.specs.declared.desk_refusal.DeskRefusal.{DeskRefusal}
 use Rattle.book.specs.declared.desk_refusal.DeskRefusal.TheVariants as refusals
 use Rattle.holdings.specs.Holding.{HeldView, held_at}
-use Rattle.node.specs.Answers.{AnswersReport, AnswersReportOf, FailsReport, IsMarked, IsRefused, refusal_of}
+use Rattle.node.specs.Answers.{AnswersReport, AnswersReportOf, FailsReport}
 use Rattle.node.specs.Fits.{Fits}
 use Rattle.node.specs.Steps.{HasYielded, answered}
 use Rattle.node.specs.Workers.{NodeView, WorkView, worker_at}
-use Rattle.node.specs.declared.outgoing.Outgoing.{Outgoing}
-use Rattle.node.specs.declared.outcome.NodeFault.{NodeFault}
+use Rattle.outbox.specs.Reports.{IsReportOf}
+use Rattle.outbox.specs.declared.outgoing.Outgoing.{Outgoing}
 use Rattle.node.specs.declared.outcome.NodeFault.TheVariants as faults
-use Rattle.node.specs.declared.outcome.Outcome.{Outcome}
-use Rattle.node.proofs.FitLaws.{looked_not, worker-let_go}
+use Rattle.node.specs.declared.outcome.Outcome.TheVariants as outcomes
+use Rattle.node.proofs.FitLaws.{fails-refused, looked_not, worker-let_go}
 
 -- a node that holds this, by its parts
 abbrev pub with_held : List (Option HeldView) → ℕ → Option WorkView → List Outgoing → NodeView
 with_held held number prepared outbox = record { number = number; held = held; prepared = prepared; outbox = outbox }
 
--- the own work was reported
-pub marked : (case : CaseShape) (old new : DeskView) (was : NodeView) (interval : ℕ) (held : HeldView) (own mark : ℕ)
-    → Fits case old was → held_at was.held interval ≡ Some held
-    → ((h : HeldView) (b : Bounds) → held_at was.held interval ≡ Some h → slice_get (intervals_of case.topology) interval ≡ Some b
-    → own ≡ own_work case (cached h.rows) b)
-    → mark ≡ mark_of new.marks held.lease.interval → HasLooked old new
-    → (old.alone ≡ true → IsReported old new held.lease own mark) → IsMarked case old new held was was mark
-marked case old new was interval held own mark fits at exact known looked alone = record {
+-- the own work was reported, of what is held
+pub marked : (case : CaseShape) (old new : DeskView) (was : NodeView) (interval mark : ℕ) (here : Option HeldView)
+    → Fits case old was → held_at was.held interval ≡ here → IsSome here → HasLooked old new
+    → IfSome here (λ held. IsReportOf case old new interval held mark) → AnswersReport case old new here was was (outcomes.Marked mark)
+marked case old new was interval mark None fits at there looked is = absurd cc
+marked case old new was interval mark (Some held) fits at there looked is = record {
   idle = record { looked = looked; kept = refl };
-  own = own;
-  of_rows = λ bounds is. exact held bounds at
-      (sym (ap (slice_get (intervals_of case.topology)) (fits.held.each interval held at).of_interval) ∙ is);
-  known = known;
-  alone = alone;
+  own = is.own;
+  of_rows = λ bounds found. is.of_rows bounds
+      (sym (ap (slice_get (intervals_of case.topology)) (fits.held.each interval held at).of_interval) ∙ found);
+  known = is.answer;
+  alone = is.alone;
 }
 
 -- what a report answers that was refused
@@ -61,19 +54,20 @@ answers-unreported case old new held was node (refusals.RowDamaged name bytes) l
 answers-unreported case old new held was node refusals.NoMemory looked reason left = tt
 
 -- and so by what is held
-pub report-at : (case : CaseShape) (old new : DeskView) (was node : NodeView) (interval : ℕ) (held : HeldView)
-    (result : Result Outcome NodeFault)
-    → held_at was.held interval ≡ Some held → IfOk result (AnswersReportOf case old new held was node)
-    → IfOk result (AnswersReport case old new (held_at was.held interval) was node)
-report-at case old new was node interval held result at is =
-    subst (λ (o : Option HeldView). IfOk result (AnswersReport case old new o was node)) (sym at) is
+pub unreported-at : (case : CaseShape) (old new : DeskView) (was node : NodeView) (interval : ℕ) (here : Option HeldView) (why : DeskRefusal)
+    → Fits case old was → held_at was.held interval ≡ here → IsSome here → HasLooked old new
+    → IfSome here (λ held. HasReason old new held.lease why) → HasYielded case.topology interval why was node
+    → IfOk (answered why) (AnswersReport case old new here was node)
+unreported-at case old new was node interval None why fits at there looked reason left = absurd cc
+unreported-at case old new was node interval (Some held) why fits at there looked reason left =
+    answers-unreported case old new held was node why looked reason
+    (subst (λ (n : ℕ). HasYielded case.topology n why was node) (sym (fits.held.each interval held at).of_interval) left)
 
 -- the reason, by what is held
-pub reason-held : (old new : DeskView) (was : List (Option HeldView)) (interval : ℕ) (held : HeldView) (result : Result Outcome NodeFault)
-    → held_at was interval ≡ Some held → IfErr result (λ fault. IsRefused old new held.lease (refusal_of fault))
-    → IfErr result (FailsReport old new (held_at was interval))
-reason-held old new was interval held result at is =
-    subst (λ (o : Option HeldView). IfErr result (FailsReport old new o)) (sym at) is
+pub reason-held : (old new : DeskView) (here : Option HeldView) (why : DeskRefusal) → IsSome here
+    → IfSome here (λ held. HasReason old new held.lease why) → IfErr (answered why) (FailsReport old new here)
+reason-held old new None why there reason = absurd cc
+reason-held old new (Some held) why there reason = fails-refused old new held.lease why reason
 
 -- a report that was refused fails for lack of memory alone
 pub memory-alone : (why : DeskRefusal) → IsReportRefusal why → IfErr (answered why) (λ fault. fault ≡ faults.NoMemory)

@@ -1,19 +1,16 @@
--- Workers and what they send each other may cross threads.
+-- Workers may cross threads.
 use denote.RattleType.{RattleType}
 use denote.Param.Send.{IsSend, sendable}
 use Rattle.std.proofs.Crossing.{crosses}
 use Rattle.book.specs.declared.desk.Seen.{Ghosts}
 use Rattle.mw_types.proofs.delivery.Delivery.TheSendSync as deliveries
-use Rattle.mw_types.proofs.identity.RecordId.TheSendSync as ids
 use Rattle.mw_types.proofs.identity.RowName.TheSendSync as names
 use Rattle.mw_types.proofs.timer.Timer.TheSendSync as timers
 use Rattle.book.specs.contracts.proposal.Proposal as Proposal
 use Rattle.book.proofs.Sending.{effects_send}
 use Rattle.holdings.proofs.Sending.{holdings_send}
-use Rattle.node.specs.contracts.message.Message as Message
+use Rattle.outbox.proofs.Sending.{outbox_send}
 use Rattle.node.specs.contracts.node.Node as Node
-use Rattle.node.specs.contracts.outbox.Outbox as Outbox
-use Rattle.node.specs.contracts.outgoing.Outgoing as Outgoing
 use Rattle.node.specs.contracts.work.Work as Work
 
 -- what is proposed, as a field
@@ -23,14 +20,6 @@ proposal_field_send = search (sendable, effects_send, deliveries.the_field_send,
 -- a work that is prepared
 work_send : IsSend Work.the_row
 work_send = search (sendable, crosses, proposal_field_send, names.the_field_send) depth 30
-
--- what is to be sent
-outgoing_send : IsSend Outgoing.the_row
-outgoing_send = search (sendable, deliveries.the_field_send, names.the_field_send, ids.the_field_send) depth 30
-
--- what a worker has to send
-outbox_send : IsSend Outbox.the_row
-outbox_send = search (sendable, crosses, outgoing_send) depth 30
 
 -- a worker, where the notes of its messages may cross
 pub node_send : (N : RattleType) (g : Ghosts N.Denot) → IsSend N → IsSend (Node.the_row N g)

@@ -34,8 +34,8 @@ use Rattle.node.specs.Workers.{NodeView, WorkView, sending_of, with_outgoing, wo
 use Rattle.node.specs.declared.outcome.NodeFault.{NodeFault}
 use Rattle.node.specs.declared.outcome.Outcome.{Outcome}
 use Rattle.node.specs.declared.outcome.Outcome.TheVariants as outcomes
-use Rattle.node.specs.declared.outgoing.Outgoing.{Outgoing}
-use Rattle.node.specs.declared.outgoing.Outgoing.TheVariants as outgoing
+use Rattle.outbox.specs.declared.outgoing.Outgoing.{Outgoing}
+use Rattle.outbox.specs.declared.outgoing.Outgoing.TheVariants as outgoing
 use Rattle.node.proofs.CommitLaws.{IsAppended, committed, grown-by, leases-written, more-by}
 use Rattle.node.proofs.FitLaws.{HasMore, fails-refused, held-interval, outbox-more, outgoing-more}
 use Rattle.node.proofs.PurgeLaws.{holding, ok-answers, held-on-at}

@@ -19,7 +19,7 @@ use Rattle.list_lemmas.proofs.Lists.{some_same}
 use Rattle.book.specs.Desks.{DeskView}
 use Rattle.book.proofs.ProposalLaws.{record-suits}
 use Rattle.holdings.specs.Holding.{AreAllHeld, HeldView, held_on, row_held}
-use Rattle.node.specs.Messages.{IsComputation}
+use Rattle.outbox.specs.Messages.{IsComputation}
 use Rattle.node.specs.Works.{IsStateThere}
 use Rattle.node.proofs.FitLaws.{held-interval}
 

@@ -43,15 +43,15 @@ use Rattle.book.proofs.SeenRows.{told-then}
 use Rattle.holdings.specs.Holding.{AreAllHeld, HeldView, held_at, row_held}
 use Rattle.holdings.specs.Pendings.{ArePendingAmong, IsPendingAmong}
 use Rattle.holdings.specs.declared.pending.Sent.{Sent}
-use Rattle.node.specs.Answers.{IsPendingHeld, IsSwept, again_cmp, sent_again}
+use Rattle.node.specs.Answers.{IsPendingHeld, IsSwept, again_cmp}
 use Rattle.node.specs.FireSteps.{AreAllWithin}
 use Rattle.node.specs.Fits.{Fits}
-use Rattle.node.specs.Messages.{IsDeliverable, IsOutgoing, IsSentFrom}
+use Rattle.outbox.specs.Messages.{IsDeliverable, IsOutgoing, IsSentFrom, sent_again}
 use Rattle.node.specs.PurgeSteps.{AreRowsWithin}
 use Rattle.node.specs.SweepSteps.{AreAgain, AreFoundBelow, HasFoundAt, IsFoundAt, IsOnceOf, IsPendingAt, IsVouched}
 use Rattle.node.specs.Workers.{NodeView}
 use Rattle.node.proofs.FireLaws.{lies-part}
-use Rattle.node.proofs.SendLaws.{goes-there}
+use Rattle.outbox.proofs.SendLaws.{goes-there}
 
 -- ---- gathering
 

@@ -1,14 +1,12 @@
 -- What a node leaves once its desk has taken what it had prepared, or has refused it.
-use Rattle.std.proofs.Common.{◌≡◌, ◌∙◌, ◌<◌, ◌+◌, ◌^◌, ℕ, Bool, List, [], ◌∷◌, ◌++◌, length, map, refl, sym, ap, subst, arith}
+use Rattle.std.proofs.Common.{◌≡◌, ◌∙◌, ◌<◌, ◌+◌, ◌^◌, ℕ, List, [], ◌∷◌, ◌++◌, length, refl, sym, ap, subst, arith}
 use Rattle.std.specs.Prelude.{All, IfErr, IfOk, Option, Some, None}
 use Rattle.std.proofs.lemmas.List.{length-append}
 use Rattle.mw_types.specs.Outcomes.{EffectsView}
 use Rattle.mw_types.specs.declared.delivery.Delivery.{Delivery}
 use Rattle.mw_types.specs.declared.entry.Entry.{Entry}
 use Rattle.mw_types.specs.declared.entry.Entry.TheVariants as entries
-use Rattle.mw_types.specs.declared.identity.RecordId.{RecordId}
 use Rattle.mw_types.specs.declared.identity.RowName.{RowName}
-use Rattle.mw_types.specs.declared.record.Production.{Production}
 use Rattle.topology.specs.Shapes.{Shape}
 use Rattle.run_history.specs.Cases.{CaseShape}
 use Rattle.run_history.specs.Fences.{interval_of}
@@ -21,13 +19,12 @@ use Rattle.holdings.specs.Holding.{AreAllHeld, HeldView, IsRefusedOf}
 use Rattle.node.specs.Answers.{AnswersAsked, AnswersWrite, FailsAsked, HasGrown, HasKept}
 use Rattle.node.specs.Asking.{Request, handled_as, work_asked}
 use Rattle.node.specs.Fits.{Fits}
-use Rattle.node.specs.Messages.{IsAddressed}
-use Rattle.node.specs.Outboxes.{numbered}
+use Rattle.outbox.specs.Messages.{IsAddressed, messages_from}
 use Rattle.node.specs.Steps.{HasYielded, answered}
-use Rattle.node.specs.WorkSteps.{HoldsWork}
-use Rattle.node.specs.Workers.{NodeView, Worker, WorkView, messages_from}
-use Rattle.node.specs.declared.outgoing.Outgoing.{Outgoing}
-use Rattle.node.specs.declared.outgoing.Outgoing.TheVariants as outgoing
+use Rattle.outbox.specs.WorkSteps.{HoldsWork}
+use Rattle.node.specs.Workers.{NodeView, Worker, WorkView}
+use Rattle.outbox.specs.declared.outgoing.Outgoing.{Outgoing}
+use Rattle.outbox.specs.declared.outgoing.Outgoing.TheVariants as outgoing
 use Rattle.node.proofs.CommitLaws.{Fits-written, IsAppended, appended-handled, grown-by, work-asked, work-of, written_by}
 use Rattle.node.proofs.FitLaws.{answers-refused, fails-refused}
 use Rattle.node.proofs.PurgeLaws.{ok-answers, held-at-on}
@@ -42,34 +39,6 @@ number-small : (desk : DeskView) (before : List Entry) (entry : Entry) (commit :
 number-small desk before entry commit sound appended number =
     let long : length desk.seen ≡ length before + 1 = ap length appended ∙ length-append before (entry ∷ []) in
     omega (arith, sound.limit, sound.few, long, number)
-
--- what was made, by the case and the productions as they are
-pub made-here : (one two : Shape) (ps qs : List Production) (name : RowName) (late : Bool) (made : List Outgoing) → one ≡ two → ps ≡ qs
-    → ((commit : ℕ) → map (numbered commit) made ≡ messages_from name (deliveries_made one name.part ps late commit))
-    → (commit : ℕ) → map (numbered commit) made ≡ messages_from name (deliveries_made two name.part qs late commit)
-made-here one two ps qs name late made same equal is = λ commit.
-    is commit ∙ ap (λ (k : Shape). messages_from name (deliveries_made k name.part ps late commit)) same
-    ∙ ap (λ (list : List Production). messages_from name (deliveries_made two name.part list late commit)) equal
-
--- and where it goes
-pub addressed-here : (one two : Shape) (ps qs : List Production) (name : RowName) (late : Bool) → one ≡ two → ps ≡ qs
-    → ((commit : ℕ) → commit < 2 ^ 32 → All (IsAddressed one) (messages_from name (deliveries_made one name.part ps late commit)))
-    → (commit : ℕ) → commit < 2 ^ 32 → All (IsAddressed two) (messages_from name (deliveries_made two name.part qs late commit))
-addressed-here one two ps qs name late same equal is = subst (λ (list : List Production). (commit : ℕ) → commit < 2 ^ 32
-    → All (IsAddressed two) (messages_from name (deliveries_made two name.part list late commit))) equal
-    (subst (λ (k : Shape). (commit : ℕ) → commit < 2 ^ 32 → All (IsAddressed k) (messages_from name
-    (deliveries_made k name.part ps late commit)))
-    same is)
-
--- an outbox into which word was put, and then what was made
-pub outbox-written : (outbox one two three : List Outgoing) (ack : Outgoing) (sender : RowName) (id : RecordId) (made : List Outgoing)
-    (name : RowName) (ds : List Delivery) (commit : ℕ) → one ≡ outbox → two ≡ one ++ ack ∷ [] → three ≡ two ++ map (numbered commit) made
-    → ack ≡ outgoing.Ack sender id → map (numbered commit) made ≡ messages_from name ds
-    → three ≡ (outbox ++ outgoing.Ack sender id ∷ []) ++ messages_from name ds
-outbox-written outbox one two three ack sender id made name ds commit room put all word sent =
-    all ∙ ap (λ (l : List Outgoing). l ++ map (numbered commit) made)
-    (put ∙ ap (λ (l : List Outgoing). l ++ ack ∷ []) room ∙ ap (λ (a : Outgoing). outbox ++ a ∷ []) word)
-    ∙ ap (λ (l : List Outgoing). (outbox ++ outgoing.Ack sender id ∷ []) ++ l) sent
 
 -- a node of these parts has written its work
 pub node-written : (shape : Shape) (held : List (Option HeldView)) (sender : RowName) (delivery : Delivery) (effects : EffectsView)

@@ -33,13 +33,14 @@ use Rattle.holdings.specs.Holding.{HeldView, held_at, held_on, row_held}
 use Rattle.holdings.specs.Pendings.{IsPendingAmong}
 use Rattle.holdings.specs.declared.pending.Sent.{Sent}
 use Rattle.node.specs.Asking.{MayAskFire, MayAskForget, MayAskPurge, Request, settling}
-use Rattle.node.specs.Workers.{NodeView, Worker, messages_from, sends, with_lease, with_outgoing, worker_at}
+use Rattle.outbox.specs.Messages.{messages_from}
+use Rattle.node.specs.Workers.{NodeView, Worker, sends, with_lease, with_outgoing, worker_at}
 use Rattle.node.specs.declared.outcome.NodeFault.{NodeFault}
 use Rattle.node.specs.declared.outcome.NodeFault.TheVariants as faults
 use Rattle.node.specs.declared.outcome.Outcome.{Outcome}
 use Rattle.node.specs.declared.outcome.Outcome.TheVariants as outcomes
-use Rattle.node.specs.declared.outgoing.Outgoing.{Outgoing}
-use Rattle.node.specs.declared.outgoing.Outgoing.TheVariants as outgoing
+use Rattle.outbox.specs.declared.outgoing.Outgoing.{Outgoing}
+use Rattle.outbox.specs.declared.outgoing.Outgoing.TheVariants as outgoing
 
 -- ---- what every call does
 
@@ -319,10 +320,6 @@ pub record IsPendingHeld (all : List (Option HeldView)) (sent : Sent) : Type 0 w
 pub record IsSweep (all : List (Option HeldView)) (again : List Sent) : Type 0 where
   pub order : IsStrictlySortedBy again_cmp again
   pub each : (sent : Sent) → Contains again sent ↔ IsPendingHeld all sent
-
--- a record that is sent again, as a message from the row that has it pending
-abbrev pub sent_again : Sent → Outgoing
-sent_again sent = outgoing.Deliver sent.delivery sent.sender
 
 -- what a sweep leaves of a worker: its messages are last in the outbox
 pub record IsSwept (desk : DeskView) (was node : NodeView) (count : ℕ) : Type 0 where

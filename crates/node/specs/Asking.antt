@@ -25,8 +25,8 @@ use Rattle.book.specs.declared.proposal.Proposal.TheVariants as proposals
 use Rattle.holdings.specs.Holding.{HeldView, held_on, row_held}
 use Rattle.holdings.specs.Timers.{due_cmp}
 use Rattle.node.specs.Workers.{NodeView, WorkView}
-use Rattle.node.specs.declared.outgoing.Outgoing.{Outgoing}
-use Rattle.node.specs.declared.outgoing.Outgoing.TheVariants as outgoing
+use Rattle.outbox.specs.declared.outgoing.Outgoing.{Outgoing}
+use Rattle.outbox.specs.declared.outgoing.Outgoing.TheVariants as outgoing
 
 -- an entry that a node asks its desk to append: the lease, the row, the entry, and whether what it makes is
 -- late

@@ -11,9 +11,9 @@ use Rattle.book.specs.Proposals.{IsHandling}
 use Rattle.book.specs.declared.proposal.Proposal.{Proposal}
 use Rattle.book.specs.declared.proposal.Proposal.TheVariants as proposals
 use Rattle.holdings.specs.Holding.{AreAllHeld, HeldView, held_on, row_held}
-use Rattle.node.specs.Messages.{IsOutgoing}
+use Rattle.outbox.specs.Messages.{IsOutgoing}
 use Rattle.node.specs.Workers.{NodeView, WorkView}
-use Rattle.node.specs.declared.outgoing.Outgoing.TheVariants as outgoing
+use Rattle.outbox.specs.declared.outgoing.Outgoing.TheVariants as outgoing
 
 -- a record that its sender may have sent goes to a row that is held, and is not finished there; these effects
 -- are what its computation's handler leaves of it on that row

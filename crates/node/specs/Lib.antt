@@ -1,15 +1,12 @@
-pub mod Messages
 pub mod Received
 pub mod Workers
 pub mod Fits
 pub mod Works
 pub mod Asking
 pub mod Answers
-pub mod Outboxes
 pub mod Steps
 pub mod LineSteps
 pub mod SweepSteps
 pub mod PurgeSteps
-pub mod WorkSteps
 pub mod MarkSteps
 pub mod FireSteps

@@ -3,8 +3,8 @@ use Rattle.std.specs.Prelude.{List, Option, Some, None, slice_get, ⊤}
 use Rattle.std.specs.Option.{option_and_then}
 use Rattle.node.specs.declared.message.Message.{Message}
 use Rattle.node.specs.declared.message.Message.TheVariants as messages
-use Rattle.node.specs.declared.outgoing.Outgoing.{Outgoing}
-use Rattle.node.specs.declared.outgoing.Outgoing.TheVariants as outgoing
+use Rattle.outbox.specs.declared.outgoing.Outgoing.{Outgoing}
+use Rattle.outbox.specs.declared.outgoing.Outgoing.TheVariants as outgoing
 
 -- a message without its note
 abbrev pub outgoing_of : {N : Type 0} → Message N → Outgoing

@@ -3,7 +3,7 @@
 -- Akidau et al., VLDB 2013, section 6.1 for what a worker does on receipt of a record, section 6.2 for
 -- sequencers.
 -- Own: the rows that a worker has cached are left out, since its leases tell them.
-use Rattle.std.specs.Prelude.{◌==◌, ◌++◌, ◌∷◌, ℕ, Bool, false, not, if◌then◌else◌, List, [], map, length, Option, Some, None, ⊤}
+use Rattle.std.specs.Prelude.{◌==◌, ◌++◌, ◌∷◌, ℕ, Bool, false, not, if◌then◌else◌, List, [], length, Option, Some, None, ⊤}
 use Rattle.std.specs.Option.{option_map, option_map_or, option_and_then}
 use Rattle.mw_types.specs.declared.delivery.Delivery.{Delivery}
 use Rattle.mw_types.specs.declared.entry.Entry.{Entry}
@@ -15,8 +15,8 @@ use Rattle.run_history.specs.Runs.{run_of}
 use Rattle.book.specs.declared.proposal.Proposal.{Proposal}
 use Rattle.book.specs.declared.proposal.Proposal.TheVariants as proposals
 use Rattle.holdings.specs.Holding.{HeldView, held_at}
-use Rattle.node.specs.declared.outgoing.Outgoing.{Outgoing}
-use Rattle.node.specs.declared.outgoing.Outgoing.TheVariants as outgoing
+use Rattle.outbox.specs.declared.outgoing.Outgoing.{Outgoing}
+use Rattle.outbox.specs.declared.outgoing.Outgoing.TheVariants as outgoing
 
 -- a record that was sent, and the row that sent it
 pub record Sending : Type 0 where
@@ -64,10 +64,6 @@ with_written (Some sending) worker = record worker {
   prepared = None;
   outbox = worker.outbox ++ outgoing.Ack sending.sender sending.delivery.id ∷ [];
 }
-
--- deliveries as messages from the row that sent them
-abbrev pub messages_from : RowName → List Delivery → List Outgoing
-messages_from name deliveries = map (λ (d : Delivery). outgoing.Deliver d name) deliveries
 
 -- what an entry on a row makes after a history, as messages from the row
 abbrev pub sends : Shape → List Entry → RowName × Entry → List Outgoing

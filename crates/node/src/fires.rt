@@ -12,22 +12,20 @@ ghost use Rattle.topology.specs.Shapes.{parts_of};
 ghost use Rattle.run_history.specs.Fences.{interval_of};
 ghost use Rattle.node.specs.Asking.{IsNextTimer, MayAskFire};
 ghost use Rattle.node.specs.FireSteps.{AreAllWithin, IsFirstIn, IsLeftByHandler, HoldsFire, IsLeastTimerBelow, IsSetAt, IsTimerToFire, due_under, earlier_timer, lesser_timer};
-ghost use Rattle.node.specs.Messages.{IsAddressed, IsComputation};
-ghost use Rattle.node.specs.WorkSteps.{handler_sends};
+ghost use Rattle.outbox.specs.Messages.{IsAddressed, IsComputation};
+ghost use Rattle.outbox.specs.WorkSteps.{handler_sends};
 ghost use Rattle.node.specs.Workers.{NodeView};
 ghost use Rattle.node.specs.Works.{IsWorkOf};
 
 use crate::handling::fired;
 use crate::known_marks::least_known;
 use crate::node::Node;
-use crate::outbox::Outbox;
 use crate::outcome::{NodeFault, Outcome};
-use crate::sends::made_by;
-use crate::writes::write_made;
 use book::{Desk, DeskRefusal, Proposal, Seen};
 use computations::Computation;
 use holdings::{Holdings, RowTimer};
 use mw_types::{Effects, NoMemory, RowName, Timer};
+use outbox::{Outbox, made_by, write_made};
 use run_history::Case;
 use std::alloc::Global;
 

@@ -1,9 +1,7 @@
 //! What a computation leaves of a record or of a timer.
-ghost use Rattle.std.specs.Prelude.{◌≡◌, ◌≤◌, IfOk, Some, length, slice_get};
+ghost use Rattle.std.specs.Prelude.{◌≡◌, ◌≤◌, IfOk, Some, slice_get};
 ghost use Rattle.mw_types.specs.declared.TheConstants.{MAX_STAMP};
 ghost use Rattle.run_history.specs.Legal.{record_outcome, timer_outcome};
-ghost use Rattle.run_history.specs.Fits.{suits_part};
-ghost use Rattle.node.specs.Messages.{IsComputation};
 ghost use Rattle.node.specs.Works.{IsStateThere, IsWorkOf};
 
 use computations::{Computation, Context};

@@ -12,19 +12,16 @@ ghost use Rattle.node.specs.Answers.{AnswersAsked, FailsAsked, HasGrown, HasKept
 ghost use Rattle.node.specs.Asking.{line_asked};
 ghost use Rattle.node.specs.Fits.{Fits};
 ghost use Rattle.node.specs.LineSteps.{HoldsLine, IsLineNext, IsNextOf, injector_row, line_deliveries, line_held, production_of};
-ghost use Rattle.node.specs.Messages.{IsAddressed};
-ghost use Rattle.node.specs.Outboxes.{numbered};
-ghost use Rattle.node.specs.Workers.{messages_from, worker_at};
+ghost use Rattle.outbox.specs.Messages.{IsAddressed, messages_from};
+ghost use Rattle.outbox.specs.Outboxes.{numbered};
+ghost use Rattle.node.specs.Workers.{worker_at};
 
 use crate::node::Node;
-use crate::outbox::Outbox;
 use crate::outcome::{NodeFault, Outcome};
-use crate::outgoing::Outgoing;
-use crate::sends::made;
-use crate::writes::write_made;
 use book::{Desk, DeskRefusal, Proposal, Seen, production_of};
 use holdings::{Held, Holdings};
 use mw_types::{Key, NoMemory, Record, RowName};
+use outbox::{Outbox, Outgoing, made, write_made};
 use run_history::Case;
 use std::alloc::Global;
 use topology::Topology;

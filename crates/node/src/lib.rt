@@ -2,11 +2,11 @@
 //! messages that it has to send.
 //!
 //! A worker asks its desk for one entry at a time, and sends what an entry makes once the entry is
-//! there. Stands on `holdings`, `book` and the crates below them. Public contract: a worker fits
+//! there. Stands on `outbox`, `holdings`, `book` and the crates below them. Public contract: a worker fits
 //! its desk after each call (`Fits`), each call answers what is asked of the desk by what the
 //! worker holds (`specs/Asking.antt`, `specs/Answers.antt`), and a refusal leaves the worker as it
 //! was, or without the lease that was overtaken. Definitions: `specs/Workers.antt`, what a worker
-//! is; `specs/Messages.antt`, what workers send each other; `specs/Fits.antt`.
+//! is; `specs/Fits.antt`. What workers send each other is defined in `outbox`.
 #![tactic(auto)]
 
 mod beside;
@@ -19,13 +19,10 @@ mod known_marks;
 mod message;
 mod messages_out;
 mod node;
-mod outbox;
 mod outcome;
-mod outgoing;
 mod purges;
 mod receiving;
 mod reports;
-mod sends;
 mod settling;
 mod sweeping;
 mod unsent;

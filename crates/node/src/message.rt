@@ -16,8 +16,8 @@ pub struct Parcel<N: Seen> {
 }
 
 impl<N: Seen> Model for Parcel<N> {
-    ghost use Rattle.node.specs.Messages.{IsSoBy, ParcelView};
-    ghost use Rattle.node.specs.declared.outgoing.Outgoing.TheVariants as outgoing;
+    ghost use Rattle.outbox.specs.Messages.{IsSoBy, ParcelView};
+    ghost use Rattle.outbox.specs.declared.outgoing.Outgoing.TheVariants as outgoing;
 
     ghost Value = { ParcelView N };
 
@@ -39,8 +39,8 @@ pub struct Receipt<N: Seen> {
 }
 
 impl<N: Seen> Model for Receipt<N> {
-    ghost use Rattle.node.specs.Messages.{IsSoBy, ReceiptView};
-    ghost use Rattle.node.specs.declared.outgoing.Outgoing.TheVariants as outgoing;
+    ghost use Rattle.outbox.specs.Messages.{IsSoBy, ReceiptView};
+    ghost use Rattle.outbox.specs.declared.outgoing.Outgoing.TheVariants as outgoing;
 
     ghost Value = { ReceiptView N };
 

@@ -3,16 +3,16 @@ ghost use Rattle.std.specs.Prelude.{◌≡◌, ◌<◌, ◌↔◌, ◌++◌, IfO
 ghost use Rattle.std.specs.Option.{option_and_then, option_map};
 ghost use Rattle.book.specs.Desks.{HasLooked, IsNoteOf, KeepsMarks};
 ghost use Rattle.node.specs.Fits.{Fits};
-ghost use Rattle.node.specs.Messages.{IsAddressed, IsSoBy, IsVouchedFor};
+ghost use Rattle.outbox.specs.Messages.{IsAddressed, IsSoBy, IsVouchedFor};
 ghost use Rattle.node.specs.Received.{first_record, note_of, outgoing_of, where_record};
-ghost use Rattle.node.specs.declared.outgoing.Outgoing.{Outgoing};
-ghost use Rattle.node.specs.declared.outgoing.Outgoing.TheVariants as outgoing;
+ghost use Rattle.outbox.specs.declared.outgoing.Outgoing.{Outgoing};
+ghost use Rattle.outbox.specs.declared.outgoing.Outgoing.TheVariants as outgoing;
 
 use crate::message::{Message, Parcel, Receipt};
 use crate::node::Node;
-use crate::outgoing::Outgoing;
 use book::{Desk, Seen};
 use mw_types::{Delivery, Duplicate, NoMemory, RowName};
+use outbox::Outgoing;
 use std::alloc::Global;
 
 impl<N: Seen> Node<N> {

@@ -1,17 +1,16 @@
 //! One worker.
-ghost use Rattle.std.specs.Prelude.{◌≡◌, ◌<◌, ◌↔◌, [], ℕ, List, Option, IsSome, IfSome, IsNone, IsTrue, None, Some};
+ghost use Rattle.std.specs.Prelude.{◌≡◌, ◌<◌, ◌↔◌, [], Option, IsSome, IsTrue, None};
 ghost use Rattle.run_history.specs.Cases.{CaseShape};
-ghost use Rattle.run_history.specs.Runs.{cached, row_in};
 ghost use Rattle.book.specs.Desks.{DeskView};
-ghost use Rattle.holdings.specs.Holding.{HeldView, held_at};
+ghost use Rattle.holdings.specs.Holding.{held_at};
 ghost use Rattle.node.specs.Fits.{Fits};
 ghost use Rattle.node.specs.Workers.{idle, worker_at};
 
-use crate::outbox::Outbox;
 use crate::outcome::Outcome;
 use crate::work::{Work, unprepared};
 use book::Seen;
 use holdings::Holdings;
+use outbox::Outbox;
 use std::alloc::Global;
 use std::marker::{Model, PhantomData};
 

@@ -9,11 +9,11 @@ ghost use Rattle.book.specs.declared.proposal.Proposal.TheVariants as proposals;
 ghost use Rattle.holdings.specs.Holding.{row_held};
 ghost use Rattle.node.specs.Answers.{HasKept, taken_from, taken_in};
 ghost use Rattle.node.specs.Fits.{Fits};
-ghost use Rattle.node.specs.Messages.{IsAddressed, IsDeliverable, IsOutgoing, IsVouchedFor};
+ghost use Rattle.outbox.specs.Messages.{IsAddressed, IsDeliverable, IsOutgoing, IsVouchedFor};
 ghost use Rattle.node.specs.Received.{IsDeliver, note_of, outgoing_of};
 ghost use Rattle.node.specs.Workers.{worker_at};
 ghost use Rattle.node.specs.Works.{HasStates, IsStateThere, IsWorkOf};
-ghost use Rattle.node.specs.declared.outgoing.Outgoing.TheVariants as outgoing;
+ghost use Rattle.outbox.specs.declared.outgoing.Outgoing.TheVariants as outgoing;
 
 use crate::handling::handled;
 use crate::message::{Message, Parcel};

@@ -10,6 +10,7 @@ ghost use Rattle.node.specs.Fits.{Fits};
 use crate::node::Node;
 use crate::outcome::{NodeFault, Outcome};
 use book::{Desk, Seen};
+use outbox::report_work;
 use run_history::Case;
 use std::alloc::Global;
 
@@ -52,8 +53,7 @@ impl<N: Seen> Node<N> {
             return Ok(Outcome::Nothing);
         }
         let _there = case.intervals();
-        let own = self.held.own_work(alloc, &*desk, case, interval)?;
-        let reported = desk.report(self.held.get(interval).unwrap().lease(), own);
+        let reported = report_work(&mut self.held, alloc, desk, case, interval);
         desk.sound();
         match reported {
             Ok(mark) => Ok(Outcome::Marked { mark }),

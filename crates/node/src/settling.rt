@@ -9,7 +9,7 @@ ghost use Rattle.holdings.specs.Holding.{held_on, row_held};
 ghost use Rattle.node.specs.Answers.{AnswersAck, AnswersAckOf, FailsAsked, HasGrown, HasKept};
 ghost use Rattle.node.specs.Asking.{ack_asked, settle_asked};
 ghost use Rattle.node.specs.Fits.{Fits};
-ghost use Rattle.node.specs.Messages.{IsAddressed, IsVouchedFor};
+ghost use Rattle.outbox.specs.Messages.{IsAddressed, IsVouchedFor};
 ghost use Rattle.node.specs.Received.{IsAck, note_of, outgoing_of};
 
 use crate::message::{Message, Receipt};

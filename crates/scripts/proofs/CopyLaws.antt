@@ -21,7 +21,7 @@ use Rattle.history_laws.proofs.IdLaws.{legal-tells, made-in_order, next-length}
 use Rattle.history_laws.proofs.Made.{made-rest}
 use Rattle.history_laws.proofs.SeenLaws.{found-more}
 use Rattle.book.specs.Books.{LeaseView}
-use Rattle.node.specs.declared.outgoing.Outgoing.TheVariants as outgoing
+use Rattle.outbox.specs.declared.outgoing.Outgoing.TheVariants as outgoing
 use Rattle.scripts.specs.Acts.{take_again, take_in, take_new}
 use Rattle.scripts.specs.Copies.{IsCopyKnown, answer_to_copy}
 use Rattle.scripts.specs.Worlds.{World, row_known}

@@ -23,8 +23,8 @@ use Rattle.book.specs.Marks.{reported}
 use Rattle.node.specs.Workers.{Sending, Worker, where_passes, with_outgoing, with_written}
 use Rattle.node.specs.declared.outcome.Outcome.{Outcome}
 use Rattle.node.specs.declared.outcome.Outcome.TheVariants as outcomes
-use Rattle.node.specs.declared.outgoing.Outgoing.{Outgoing}
-use Rattle.node.specs.declared.outgoing.Outgoing.TheVariants as outgoing
+use Rattle.outbox.specs.declared.outgoing.Outgoing.{Outgoing}
+use Rattle.outbox.specs.declared.outgoing.Outgoing.TheVariants as outgoing
 use Rattle.scripts.specs.Acts.{Deed, becomes, claim, copy, copy_message, crash, deed_of, fire, fire_due, fire_effects, fire_under, has_numbers, inject, inject_item, inject_next, least_timer, lose, lose_message, may_forget, must_wait, nothing, pending_known, purge, purge_first, purge_row, report, report_own, report_under, resend, send, send_all, sent_after, stays, take, take_again, take_in, take_message, take_new, take_out, write, write_effects, write_prepared, write_under, writes}
 use Rattle.scripts.specs.Keeping.{KeepsMessages}
 use Rattle.scripts.specs.Worlds.{World, in_flight, lease_of, lease_on, row_known, row_of_message, rows_known, run_known, worker_of}

@@ -30,8 +30,8 @@ use Rattle.holdings.specs.Timers.{due_cmp}
 use Rattle.node.specs.Workers.{Sending, Worker, idle, sends, where_passes, with_lease, with_outgoing, with_written}
 use Rattle.node.specs.declared.outcome.Outcome.{Outcome}
 use Rattle.node.specs.declared.outcome.Outcome.TheVariants as outcomes
-use Rattle.node.specs.declared.outgoing.Outgoing.{Outgoing}
-use Rattle.node.specs.declared.outgoing.Outgoing.TheVariants as outgoing
+use Rattle.outbox.specs.declared.outgoing.Outgoing.{Outgoing}
+use Rattle.outbox.specs.declared.outgoing.Outgoing.TheVariants as outgoing
 use Rattle.scripts.specs.Worlds.{World, empty_world, in_flight, lease_of, lease_on, overtaken_by, row_known, row_of_message, rows_known, rows_of_worker, run_known, worker_of}
 use Rattle.scripts.specs.declared.step.Step.{Step}
 use Rattle.scripts.specs.declared.step.Step.TheVariants as steps

@@ -8,8 +8,8 @@ use Rattle.worked_examples.specs.Drained.{id_of, injector_row}
 use Rattle.worked_examples.specs.First.{counts, first_case, record_at, row_a, window}
 use Rattle.node.specs.declared.outcome.Outcome.{Outcome}
 use Rattle.node.specs.declared.outcome.Outcome.TheVariants.{Claimed, Committed, Copied, Crashed, Duplicate, Lost, Marked, NotMine, Nothing, Prepared, Queued, Sent, Stale}
-use Rattle.node.specs.declared.outgoing.Outgoing.{Outgoing}
-use Rattle.node.specs.declared.outgoing.Outgoing.TheVariants as outgoing
+use Rattle.outbox.specs.declared.outgoing.Outgoing.{Outgoing}
+use Rattle.outbox.specs.declared.outgoing.Outgoing.TheVariants as outgoing
 use Rattle.scripts.specs.Acts.{answers, scripted_history, world_after}
 use Rattle.scripts.specs.Worlds.{empty_world}
 use Rattle.scripts.specs.declared.step.Step.{Step}

@@ -16,8 +16,8 @@ use Rattle.run_history.specs.Fences.{interval_of, known, last_claim}
 use Rattle.run_history.specs.Runs.{Run, row_of, run_of}
 use Rattle.book.specs.Books.{LeaseView}
 use Rattle.node.specs.Workers.{Worker, idle, where_passes}
-use Rattle.node.specs.declared.outgoing.Outgoing.{Outgoing}
-use Rattle.node.specs.declared.outgoing.Outgoing.TheVariants as outgoing
+use Rattle.outbox.specs.declared.outgoing.Outgoing.{Outgoing}
+use Rattle.outbox.specs.declared.outgoing.Outgoing.TheVariants as outgoing
 
 -- the history, a mark for each interval, the workers, and a place for each message that was sent or copied,
 -- by its number: the message while it is in flight, and nothing once it is gone

@@ -10,7 +10,7 @@ ghost use Rattle.run_history.specs.Finished.{is_handled};
 ghost use Rattle.run_history.specs.Legal.{IsLegal};
 ghost use Rattle.run_history.specs.Runs.{run_of};
 ghost use Rattle.book.specs.Books.{LeaseView};
-ghost use Rattle.node.specs.declared.outgoing.Outgoing.TheVariants as outgoing;
+ghost use Rattle.outbox.specs.declared.outgoing.Outgoing.TheVariants as outgoing;
 ghost use Rattle.scripts.specs.Acts.{take_in};
 ghost use Rattle.scripts.specs.Copies.{IsCopyKnown, answer_to_copy};
 ghost use Rattle.scripts.specs.Worlds.{World};

@@ -1,9 +1,9 @@
 //! What each step of a script keeps, and so each script.
-ghost use Rattle.std.specs.Prelude.{List, None, Option, Some, ℕ, ◌<◌, ◌≡◌, length};
+ghost use Rattle.std.specs.Prelude.{List, None, Option, ℕ, ◌<◌, ◌≡◌, length};
 ghost use Rattle.mw_types.specs.declared.entry.Entry.{Entry};
 ghost use Rattle.run_history.specs.Cases.{CaseShape};
 ghost use Rattle.run_history.specs.Fences.{Begins};
-ghost use Rattle.node.specs.declared.outgoing.Outgoing.{Outgoing};
+ghost use Rattle.outbox.specs.declared.outgoing.Outgoing.{Outgoing};
 ghost use Rattle.scripts.specs.Acts.{world_after, world_then};
 ghost use Rattle.scripts.specs.Keeping.{
   AppendsAtMostOne,

@@ -27,8 +27,8 @@ use Rattle.node.specs.Workers.{NodeView, Sending, WorkView, Worker, leases_of, s
 use Rattle.node.specs.declared.outcome.NodeFault.{NodeFault}
 use Rattle.node.specs.declared.outcome.Outcome.{Outcome}
 use Rattle.node.specs.declared.outcome.Outcome.TheVariants as outcomes
-use Rattle.node.specs.declared.outgoing.Outgoing.{Outgoing}
-use Rattle.node.specs.declared.outgoing.Outgoing.TheVariants as outgoing
+use Rattle.outbox.specs.declared.outgoing.Outgoing.{Outgoing}
+use Rattle.outbox.specs.declared.outgoing.Outgoing.TheVariants as outgoing
 use Rattle.node.proofs.FitLaws.{held-interval}
 use Rattle.workers.specs.Serving.{HasServed, appended, entries_of}
 use Rattle.workers.specs.Slices.{IsOvertaken, KeepsLeases}

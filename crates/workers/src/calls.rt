@@ -73,7 +73,7 @@ pub(crate) struct Fire<'a, C: Computation> {
 
 impl<'a, N: Seen, C: Computation> Call<N> for Fire<'a, C> {
     ghost use Rattle.std.specs.Prelude.{None};
-    ghost use Rattle.node.specs.Messages.{IsComputation};
+    ghost use Rattle.outbox.specs.Messages.{IsComputation};
     ghost use Rattle.node.specs.Works.{IsWorkOf};
 
     ghost may = { λ call case. IsComputation case.topology call.part

@@ -2,7 +2,7 @@
 ghost use Rattle.std.specs.Prelude.{◌≡◌, ◌<◌, IfErr, IsTrue, OnOk};
 ghost use Rattle.topology.specs.Shapes.{injectors_of};
 ghost use Rattle.node.specs.Fits.{Fits};
-ghost use Rattle.node.specs.Messages.{IsComputation};
+ghost use Rattle.outbox.specs.Messages.{IsComputation};
 ghost use Rattle.node.specs.Works.{IsWorkOf};
 ghost use Rattle.node.specs.declared.outcome.Outcome.TheVariants as outcomes;
 ghost use Rattle.workers.specs.Serving.{HasServed};

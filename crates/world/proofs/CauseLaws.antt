@@ -22,8 +22,8 @@ use Rattle.node.specs.Asking.{MayAskFire, MayAskPurge, Request, handled_as, line
 use Rattle.node.specs.Workers.{NodeView, WorkView, Worker, idle, with_outgoing, worker_at}
 use Rattle.node.specs.declared.outcome.Outcome.{Outcome}
 use Rattle.node.specs.declared.outcome.Outcome.TheVariants as outcomes
-use Rattle.node.specs.declared.outgoing.Outgoing.{Outgoing}
-use Rattle.node.specs.declared.outgoing.Outgoing.TheVariants as outgoing
+use Rattle.outbox.specs.declared.outgoing.Outgoing.{Outgoing}
+use Rattle.outbox.specs.declared.outgoing.Outgoing.TheVariants as outgoing
 use Rattle.node.proofs.FitLaws.{held-interval}
 use Rattle.scripts.specs.Acts.{must_wait}
 use Rattle.scripts.specs.Worlds.{World, lease_of, lease_on, row_of_message, worker_of}

@@ -10,12 +10,12 @@ use Rattle.run_history.specs.Cases.{CaseShape}
 use Rattle.book.specs.Books.{BookView}
 use Rattle.book.specs.OwnDesks.{own_view}
 use Rattle.book.specs.declared.own_desk.NoNote.{NoNote}
-use Rattle.node.specs.Messages.{IsOutgoing}
+use Rattle.outbox.specs.Messages.{IsOutgoing}
 use Rattle.node.specs.Received.{outgoing_of}
 use Rattle.node.specs.declared.message.Message.{Message}
 use Rattle.node.specs.declared.outcome.Outcome.{Outcome}
 use Rattle.node.specs.declared.outcome.Outcome.TheVariants as outcomes
-use Rattle.node.specs.declared.outgoing.Outgoing.{Outgoing}
+use Rattle.outbox.specs.declared.outgoing.Outgoing.{Outgoing}
 use Rattle.scripts.specs.Acts.{Deed, copy_message, done, has_numbers, lose_message, nothing, sent_after, stays, without_message}
 use Rattle.scripts.specs.Worlds.{World, in_flight}
 use Rattle.scripts.specs.declared.step.Step.TheVariants as steps

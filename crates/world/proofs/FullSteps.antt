@@ -29,8 +29,8 @@ use Rattle.node.specs.declared.message.Message.{Message}
 use Rattle.node.specs.declared.outcome.NodeFault.{NodeFault}
 use Rattle.node.specs.declared.outcome.NodeFault.TheVariants as faults
 use Rattle.node.specs.declared.outcome.Outcome.{Outcome}
-use Rattle.node.specs.declared.outgoing.Outgoing.{Outgoing}
-use Rattle.node.specs.declared.outgoing.Outgoing.TheVariants as outgoing
+use Rattle.outbox.specs.declared.outgoing.Outgoing.{Outgoing}
+use Rattle.outbox.specs.declared.outgoing.Outgoing.TheVariants as outgoing
 use Rattle.scripts.specs.Acts.{Acted, Deed, done, fire, inject, purge, without_message, write, writes}
 use Rattle.scripts.specs.Worlds.{World, worker_of}
 use Rattle.scripts.specs.declared.step.Step.{Step}

@@ -13,7 +13,7 @@ use Rattle.book.proofs.OwnLaws.{sound}
 use Rattle.node.specs.Workers.{NodeView, Worker, idle, leases_of, worker_at}
 use Rattle.node.specs.declared.message.Message.{Message}
 use Rattle.node.specs.declared.outcome.Outcome.TheVariants as outcomes
-use Rattle.node.specs.declared.outgoing.Outgoing.{Outgoing}
+use Rattle.outbox.specs.declared.outgoing.Outgoing.{Outgoing}
 use Rattle.node.proofs.FitLaws.{grown_looked, looked-moved, looked_not, more-looked}
 use Rattle.scripts.specs.Acts.{done, has_numbers, nothing, send_all}
 use Rattle.scripts.specs.Worlds.{World, worker_of}

@@ -17,10 +17,10 @@ use Rattle.book.specs.declared.own_desk.NoNote.{NoNote}
 use Rattle.holdings.specs.Holding.{HeldView}
 use Rattle.node.specs.Answers.{HasGrown, IsOwnEntry}
 use Rattle.node.specs.Fits.{Fits}
-use Rattle.node.specs.Messages.{IsOutgoing}
+use Rattle.outbox.specs.Messages.{IsOutgoing}
 use Rattle.node.specs.Workers.{NodeView, Worker, idle, leases_of, worker_at}
 use Rattle.node.specs.declared.message.Message.{Message}
-use Rattle.node.specs.declared.outgoing.Outgoing.{Outgoing}
+use Rattle.outbox.specs.declared.outgoing.Outgoing.{Outgoing}
 use Rattle.node.proofs.FitLaws.{Fits-beside, HasMore, outgoing-more}
 use Rattle.scripts.specs.Keeping.{AreClaimed}
 use Rattle.scripts.proofs.Places.{at-set}

@@ -21,8 +21,8 @@ use Rattle.node.specs.Received.{IsAck}
 use Rattle.node.specs.Workers.{IsHandle, NodeView, WorkView, Worker, sending_of, worker_at}
 use Rattle.node.specs.declared.outcome.Outcome.{Outcome}
 use Rattle.node.specs.declared.outcome.Outcome.TheVariants as outcomes
-use Rattle.node.specs.declared.outgoing.Outgoing.{Outgoing}
-use Rattle.node.specs.declared.outgoing.Outgoing.TheVariants as outgoing
+use Rattle.outbox.specs.declared.outgoing.Outgoing.{Outgoing}
+use Rattle.outbox.specs.declared.outgoing.Outgoing.TheVariants as outgoing
 use Rattle.scripts.specs.Acts.{must_wait}
 use Rattle.scripts.specs.Worlds.{lease_of, lease_on, row_of_message}
 use Rattle.world.specs.Standing.{FitsOwn}

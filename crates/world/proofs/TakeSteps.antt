@@ -10,13 +10,13 @@ use Rattle.list_lemmas.proofs.Lists.{some_same}
 use Rattle.book.specs.Books.{BookView, LeaseView}
 use Rattle.book.specs.OwnDesks.{own_view}
 use Rattle.book.specs.declared.own_desk.NoNote.{NoNote}
-use Rattle.node.specs.Messages.{IsOutgoing}
+use Rattle.outbox.specs.Messages.{IsOutgoing}
 use Rattle.node.specs.Received.{outgoing_of}
 use Rattle.node.specs.Workers.{NodeView, Worker, idle, worker_at}
 use Rattle.node.specs.declared.message.Message.{Message}
 use Rattle.node.specs.declared.outcome.Outcome.{Outcome}
 use Rattle.node.specs.declared.outcome.Outcome.TheVariants as outcomes
-use Rattle.node.specs.declared.outgoing.Outgoing.{Outgoing}
+use Rattle.outbox.specs.declared.outgoing.Outgoing.{Outgoing}
 use Rattle.scripts.specs.Acts.{act, done, must_wait, nothing, stays, take_message, take_out, without_message}
 use Rattle.scripts.specs.Worlds.{World, in_flight, lease_on, row_of_message, worker_of}
 use Rattle.scripts.specs.declared.step.Step.TheVariants as steps

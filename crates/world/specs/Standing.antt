@@ -3,9 +3,9 @@ use Rattle.std.specs.Prelude.{◌≡◌, ◌≤◌, ◌^◌, ℕ, length, slice_
 use Rattle.book.specs.Books.{BookView}
 use Rattle.book.specs.OwnDesks.{own_view}
 use Rattle.node.specs.Fits.{Fits}
-use Rattle.node.specs.Messages.{IsOutgoing}
+use Rattle.outbox.specs.Messages.{IsOutgoing}
 use Rattle.node.specs.Workers.{NodeView}
-use Rattle.node.specs.declared.outgoing.Outgoing.{Outgoing}
+use Rattle.outbox.specs.declared.outgoing.Outgoing.{Outgoing}
 use Rattle.scripts.specs.Keeping.{AreClaimed}
 use Rattle.world.specs.WorldStates.{WorldState, flight_of, world_of}
 

@@ -16,7 +16,7 @@ use Rattle.node.specs.declared.outcome.NodeFault.{NodeFault}
 use Rattle.node.specs.declared.outcome.NodeFault.TheVariants.{HistoryFull}
 use Rattle.node.specs.declared.outcome.Outcome.{Outcome}
 use Rattle.node.specs.declared.outcome.Outcome.TheVariants as outcomes
-use Rattle.node.specs.declared.outgoing.Outgoing.{Outgoing}
+use Rattle.outbox.specs.declared.outgoing.Outgoing.{Outgoing}
 use Rattle.scripts.specs.Acts.{act, must_wait, without_message}
 use Rattle.scripts.specs.Worlds.{World, in_flight, lease_on, row_of_message}
 use Rattle.scripts.specs.declared.step.Step.{Step}

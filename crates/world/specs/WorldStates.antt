@@ -6,7 +6,7 @@ use Rattle.book.specs.declared.own_desk.NoNote.{NoNote}
 use Rattle.node.specs.Received.{outgoing_of}
 use Rattle.node.specs.Workers.{NodeView, worker_at}
 use Rattle.node.specs.declared.message.Message.{Message}
-use Rattle.node.specs.declared.outgoing.Outgoing.{Outgoing}
+use Rattle.outbox.specs.declared.outgoing.Outgoing.{Outgoing}
 use Rattle.scripts.specs.Worlds.{World}
 
 -- the book, the workers by their numbers, and a place for each message that was sent or copied, by its

@@ -1,7 +1,7 @@
 //! Messages that a worker takes: a record that it handles, or word that a record was handled.
 ghost use Rattle.std.specs.Prelude.{◌≡◌, ℕ, IfErr, IfOk, None, OnErr};
 ghost use Rattle.book.specs.OwnDesks.{own_view};
-ghost use Rattle.node.specs.Messages.{IsAddressed, IsOutgoing};
+ghost use Rattle.outbox.specs.Messages.{IsAddressed, IsOutgoing};
 ghost use Rattle.node.specs.Received.{outgoing_of};
 ghost use Rattle.node.specs.Workers.{worker_at};
 ghost use Rattle.node.specs.Works.{IsWorkOf};

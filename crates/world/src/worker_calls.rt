@@ -1,7 +1,7 @@
 //! What one worker does to its book: each call of a worker that a step asks for.
-ghost use Rattle.std.specs.Prelude.{◌≡◌, ◌<◌, IfErr, IfOk, OnErr};
+ghost use Rattle.std.specs.Prelude.{◌<◌, IfErr, IfOk, OnErr};
 ghost use Rattle.topology.specs.Rules.{interval_count};
-ghost use Rattle.node.specs.Messages.{IsComputation};
+ghost use Rattle.outbox.specs.Messages.{IsComputation};
 ghost use Rattle.node.specs.Workers.{worker_at};
 ghost use Rattle.node.specs.Works.{IsWorkOf};
 ghost use Rattle.world.specs.Standing.{FitsOwn};

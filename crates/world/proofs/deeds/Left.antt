@@ -18,7 +18,7 @@ use Rattle.node.specs.Asking.{Request}
 use Rattle.node.specs.Workers.{NodeView, Worker, idle, sends, with_lease, with_outgoing, worker_at}
 use Rattle.node.specs.declared.outcome.Outcome.{Outcome}
 use Rattle.node.specs.declared.outcome.Outcome.TheVariants as outcomes
-use Rattle.node.specs.declared.outgoing.Outgoing.{Outgoing}
+use Rattle.outbox.specs.declared.outgoing.Outgoing.{Outgoing}
 use Rattle.scripts.specs.Acts.{Acted, Deed, becomes, changed_by, done, lost, nothing, stays, with_made, writes}
 use Rattle.scripts.specs.Worlds.{World, worker_of}
 use Rattle.scripts.proofs.OwnerLaws.{done-current, done-overtaken}

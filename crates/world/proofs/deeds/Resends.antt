@@ -24,8 +24,8 @@ use Rattle.book.specs.Books.{BookView, LeaseView}
 use Rattle.book.specs.OwnDesks.{own_view}
 use Rattle.holdings.specs.Holding.{HeldView, held_at, held_on, row_held}
 use Rattle.holdings.specs.declared.pending.Sent.{Sent}
-use Rattle.node.specs.Answers.{AnswersSweep, IsPendingHeld, IsSwept, sent_again}
-use Rattle.node.specs.Messages.{IsSentFrom}
+use Rattle.node.specs.Answers.{AnswersSweep, IsPendingHeld, IsSwept}
+use Rattle.outbox.specs.Messages.{IsSentFrom, sent_again}
 use Rattle.node.specs.Workers.{NodeView, with_outgoing, worker_at}
 use Rattle.node.specs.declared.outcome.Outcome.{Outcome}
 use Rattle.node.specs.declared.outcome.Outcome.TheVariants as outcomes

@@ -12,9 +12,9 @@ use Rattle.mw_types.specs.declared.identity.RecordId.{RecordId}
 use Rattle.mw_types.specs.declared.identity.RowName.{RowName}
 use Rattle.row_parts.specs.Contents.{delivery_cmp}
 use Rattle.holdings.specs.declared.pending.Sent.{Sent}
-use Rattle.node.specs.Answers.{sent_again}
+use Rattle.outbox.specs.Messages.{sent_again}
 use Rattle.node.specs.Workers.{where_passes}
-use Rattle.node.specs.declared.outgoing.Outgoing.TheVariants as outgoing
+use Rattle.outbox.specs.declared.outgoing.Outgoing.TheVariants as outgoing
 use Rattle.list_lemmas.proofs.Lists.{none_some, some_same}
 
 -- records stand by their ids

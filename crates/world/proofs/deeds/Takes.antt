@@ -19,8 +19,8 @@ use Rattle.node.specs.Received.{IsAck, IsDeliver}
 use Rattle.node.specs.Workers.{NodeView, WorkView, Worker, sending_in, with_outgoing, worker_at}
 use Rattle.node.specs.declared.outcome.Outcome.{Outcome}
 use Rattle.node.specs.declared.outcome.Outcome.TheVariants as outcomes
-use Rattle.node.specs.declared.outgoing.Outgoing.{Outgoing}
-use Rattle.node.specs.declared.outgoing.Outgoing.TheVariants as outgoing
+use Rattle.outbox.specs.declared.outgoing.Outgoing.{Outgoing}
+use Rattle.outbox.specs.declared.outgoing.Outgoing.TheVariants as outgoing
 use Rattle.scripts.specs.Acts.{Deed, done, nothing, stays, take, take_again, take_message, take_new, take_out, without_message, writes}
 use Rattle.scripts.specs.Worlds.{World, in_flight, lease_on, row_of_message, worker_of}
 use Rattle.world.proofs.deeds.Acting.{ActsWithout, IsActing, acting-worker}

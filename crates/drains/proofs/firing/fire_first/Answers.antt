@@ -3,7 +3,7 @@ use Rattle.std.specs.Prelude.{IfErr}
 use Rattle.run_history.specs.Watermarks.{least}
 use Rattle.watermark.specs.Marks.{marks_of}
 use Rattle.node.specs.Asking.{MayAskFire}
-use Rattle.node.specs.Messages.{IsComputation}
+use Rattle.outbox.specs.Messages.{IsComputation}
 use Rattle.drains.specs.Turns.{HasAskedOne, IsFullAsking, worker_of}
 use Rattle.drains.proofs.FullLaws.{firing-full}
 use Rattle.drains.proofs.FireLoop.{firing-first, firing-on, firing-quiet, firing-turned}

@@ -4,7 +4,7 @@ use Rattle.run_history.specs.Watermarks.{least}
 use Rattle.watermark.specs.Marks.{marks_of}
 use Rattle.node.specs.Asking.{IsNextTimer, MayAskFire}
 use Rattle.node.specs.FireSteps.{IsTimerToFire}
-use Rattle.node.specs.Messages.{IsComputation}
+use Rattle.outbox.specs.Messages.{IsComputation}
 use Rattle.drains.specs.Turns.{worker_of}
 use Rattle.drains.proofs.CallLaws.{asked-none, fire-fails, fire-of, next-own}
 use Rattle.drains.proofs.firing.fire_found.Goals as goal

@@ -1,7 +1,7 @@
 //! What a worker is asked to do at a desk, and what it answers.
 ghost use Rattle.std.specs.Prelude.{◌≡◌};
 ghost use Rattle.node.specs.Fits.{Fits};
-ghost use Rattle.node.specs.Messages.{IsAddressed, IsVouchedFor};
+ghost use Rattle.outbox.specs.Messages.{IsAddressed, IsVouchedFor};
 ghost use Rattle.node.specs.Received.{note_of, outgoing_of};
 
 use super::example::Example;

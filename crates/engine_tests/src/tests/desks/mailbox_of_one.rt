@@ -1,10 +1,8 @@
 //! A mailbox with one place, and one pass of it.
-ghost use Rattle.std.specs.Prelude.{◌≡◌};
 ghost use Rattle.topology.specs.Samples.{one_count};
-ghost use Rattle.topology.specs.Shapes.{parts_of};
 ghost use Rattle.crossbeam_queue.specs.Passes.{IsPassOf};
-ghost use Rattle.node.specs.Messages.{IsAddressed};
-ghost use Rattle.node.specs.Received.{note_of, outgoing_of};
+ghost use Rattle.outbox.specs.Messages.{IsAddressed};
+ghost use Rattle.node.specs.Received.{outgoing_of};
 
 use super::turns_of_work::mailbox;
 use crate::tests::must;

@@ -1,8 +1,8 @@
 use Rattle.std.proofs.Common.{◌≡◌, ◌∙◌, ◌++◌, ℕ, List, ap, map}
 use Rattle.holdings.proofs.HeldSteps.{ok-so}
-use Rattle.node.specs.Outboxes.{numbered}
-use Rattle.node.specs.WorkSteps.{handler_sends}
-use Rattle.node.specs.declared.outgoing.Outgoing.{Outgoing}
+use Rattle.outbox.specs.Outboxes.{numbered}
+use Rattle.outbox.specs.WorkSteps.{handler_sends}
+use Rattle.outbox.specs.declared.outgoing.Outgoing.{Outgoing}
 use Rattle.node.proofs.FiringLaws.{few-fired, fire-proposable}
 use Rattle.node.proofs.fires.write_fire.Goals as goal
 

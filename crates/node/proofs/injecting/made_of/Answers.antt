@@ -2,9 +2,8 @@ use Rattle.std.proofs.Common.{◌≡◌, ◌<◌, ◌^◌, ◌∷◌, ℕ, [], m
 use Rattle.std.specs.Prelude.{All, IfOk, OnOk}
 use Rattle.mw_types.specs.declared.record.Production.{Production}
 use Rattle.run_history.specs.Made.{deliveries_made}
-use Rattle.node.specs.Messages.{IsAddressed}
-use Rattle.node.specs.Outboxes.{numbered}
-use Rattle.node.specs.Workers.{messages_from}
+use Rattle.outbox.specs.Messages.{IsAddressed, messages_from}
+use Rattle.outbox.specs.Outboxes.{numbered}
 use Rattle.node.proofs.injecting.made_of.Goals as goal
 
 -- what is made of the one record

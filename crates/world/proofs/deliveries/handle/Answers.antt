@@ -2,7 +2,7 @@ use Rattle.std.proofs.Common.{rules, ℕ}
 use Rattle.std.specs.Prelude.{IfErr, IfOk, OnErr}
 use Rattle.book.specs.OwnDesks.{own_view}
 use Rattle.node.specs.declared.outcome.Outcome.{Outcome}
-use Rattle.node.specs.declared.outgoing.Outgoing.TheVariants as outgoing
+use Rattle.outbox.specs.declared.outgoing.Outgoing.TheVariants as outgoing
 use Rattle.node.proofs.FitLaws.{grown_looked}
 use Rattle.drains.specs.Turns.{HasFailed}
 use Rattle.world.specs.WorkerCalls.{HasCalled, HasRested, IsFullTaking, TakesOn}

@@ -1,6 +1,6 @@
 use Rattle.std.proofs.Common.{◌≡◌, ◌∙◌, ap, subst, sym, refl}
-use Rattle.std.specs.Prelude.{IfErr, IfOk, OnErr, Some, Result}
-use Rattle.holdings.specs.Holding.{IsRefusedOf}
+use Rattle.std.specs.Prelude.{IfErr, IfOk, IsSome, OnErr, Option, Some, Result, tt}
+use Rattle.holdings.specs.Holding.{HeldView, IsRefusedOf}
 use Rattle.node.specs.declared.outcome.NodeFault.{NodeFault}
 use Rattle.node.specs.declared.outcome.Outcome.{Outcome}
 use Rattle.node.specs.declared.outcome.Outcome.TheVariants as outcomes
@@ -8,20 +8,69 @@ use Rattle.node.specs.Answers.{AnswersAsked, FailsAsked, HasGrown, HasKept}
 use Rattle.node.specs.Asking.{work_asked}
 use Rattle.node.specs.Fits.{Fits}
 use Rattle.node.specs.Workers.{NodeView, WorkView, sending_of, with_written, worker_at}
-use Rattle.node.proofs.CommitLaws.{answers-written, work-of}
+use Rattle.node.proofs.CommitLaws.{answers-written, work-few, work-known, work-of, work-proposable}
 use Rattle.node.proofs.FitLaws.{Fits-kept, Fits-yielded, keeps-refused, more-looked, worker-kept}
+use Rattle.node.proofs.PurgeLaws.{held-at-on}
 use Rattle.node.proofs.WrittenLaws.{Fits-committed, answers-unwritten, fails-unwritten, grown-work, node-written}
 use Rattle.node.proofs.node.Node.commit.Goals as goal
 
--- the record of the work was handled
-pub write_work-written-requires-clause-handled : goal.write_work-written-requires-clause-handled
-write_work-written-requires-clause-handled g c =
+-- the record of the work was handled: its row is there, and the handler left few productions
+pub write_work-written-requires-clause-part : goal.write_work-written-requires-clause-part
+write_work-written-requires-clause-part g c =
     let case = c.args.case.now in
     let old = g.D.Desk.view c.args.desk.now in
     let work : WorkView = record { sender = c.in-Some.work.sender; proposal = c.in-Some.work.proposal } in
     let node : NodeView = record { number = c.self.inside.number; held = c.self.inside.held; prepared = c.self.inside.prepared; outbox = c.self.inside.outbox.messages } in
-    work-of case old node work c.parts-parts.result.0.now c.parts-parts.result.1.now
-    (subst (Fits case old) (sym c.self.view_is) c.requires.fits) c.in-Some.is c.parts-parts.ensures
+    let handled = work-of case old node work c.parts-parts.result.0.now c.parts-parts.result.1.now
+    (subst (Fits case old) (sym c.self.view_is) c.requires.fits) c.in-Some.is c.parts-parts.ensures in
+    handled.sent.addressed.to.there
+
+pub write_work-written-requires-clause-few : goal.write_work-written-requires-clause-few
+write_work-written-requires-clause-few g c =
+    let case = c.args.case.now in
+    let old = g.D.Desk.view c.args.desk.now in
+    let work : WorkView = record { sender = c.in-Some.work.sender; proposal = c.in-Some.work.proposal } in
+    let node : NodeView = record { number = c.self.inside.number; held = c.self.inside.held; prepared = c.self.inside.prepared; outbox = c.self.inside.outbox.messages } in
+    let handled = work-of case old node work c.parts-parts.result.0.now c.parts-parts.result.1.now
+    (subst (Fits case old) (sym c.self.view_is) c.requires.fits) c.in-Some.is c.parts-parts.ensures in
+    let fits : Fits case old node = subst (Fits case old) (sym c.self.view_is) c.requires.fits in
+    work-few case old node.held work.sender c.parts-parts.result.0.now c.parts-parts.result.1.now fits.held handled
+
+-- the row is held
+pub write_work-written-requires-clause-there : goal.write_work-written-requires-clause-there
+write_work-written-requires-clause-there g c =
+    let case = c.args.case.now in
+    let old = g.D.Desk.view c.args.desk.now in
+    let work : WorkView = record { sender = c.in-Some.work.sender; proposal = c.in-Some.work.proposal } in
+    let node : NodeView = record { number = c.self.inside.number; held = c.self.inside.held; prepared = c.self.inside.prepared; outbox = c.self.inside.outbox.messages } in
+    let handled = work-of case old node work c.parts-parts.result.0.now c.parts-parts.result.1.now
+    (subst (Fits case old) (sym c.self.view_is) c.requires.fits) c.in-Some.is c.parts-parts.ensures in
+    subst (λ (o : Option HeldView). IsSome o) (sym (held-at-on case.topology node.held c.parts-parts.result.0.now.to c.interval_of-interval.result
+    handled.held handled.there c.interval_of-interval.ensures.interval)) tt
+
+-- the work may be proposed
+pub write_work-written-requires-clause-proposal : goal.write_work-written-requires-clause-proposal
+write_work-written-requires-clause-proposal g c =
+    let case = c.args.case.now in
+    let old = g.D.Desk.view c.args.desk.now in
+    let work : WorkView = record { sender = c.in-Some.work.sender; proposal = c.in-Some.work.proposal } in
+    let node : NodeView = record { number = c.self.inside.number; held = c.self.inside.held; prepared = c.self.inside.prepared; outbox = c.self.inside.outbox.messages } in
+    let handled = work-of case old node work c.parts-parts.result.0.now c.parts-parts.result.1.now
+    (subst (Fits case old) (sym c.self.view_is) c.requires.fits) c.in-Some.is c.parts-parts.ensures in
+    work-proposable case old node.held work.sender c.parts-parts.result.0.now c.parts-parts.result.1.now work.proposal
+    c.interval_of-interval.result c.parts-parts.ensures c.interval_of-interval.ensures.interval handled
+
+-- and its record was made
+pub write_work-written-requires-clause-known : goal.write_work-written-requires-clause-known
+write_work-written-requires-clause-known g c =
+    let case = c.args.case.now in
+    let old = g.D.Desk.view c.args.desk.now in
+    let work : WorkView = record { sender = c.in-Some.work.sender; proposal = c.in-Some.work.proposal } in
+    let node : NodeView = record { number = c.self.inside.number; held = c.self.inside.held; prepared = c.self.inside.prepared; outbox = c.self.inside.outbox.messages } in
+    let handled = work-of case old node work c.parts-parts.result.0.now c.parts-parts.result.1.now
+    (subst (Fits case old) (sym c.self.view_is) c.requires.fits) c.in-Some.is c.parts-parts.ensures in
+    work-known case old node.held work.sender c.parts-parts.result.0.now c.parts-parts.result.1.now work.proposal
+    c.parts-parts.ensures c.requires.fits.of_case handled
 
 -- once the work is written
 pub returns-in-Ok-clause-fits : goal.returns-in-Ok-clause-fits

@@ -4,7 +4,7 @@ use Rattle.holdings.specs.Holding.{IsRefusedOf}
 use Rattle.node.specs.declared.outcome.NodeFault.{NodeFault}
 use Rattle.node.specs.declared.outcome.Outcome.{Outcome}
 use Rattle.node.specs.declared.outcome.Outcome.TheVariants as outcomes
-use Rattle.node.specs.declared.outgoing.Outgoing.{Outgoing}
+use Rattle.outbox.specs.declared.outgoing.Outgoing.{Outgoing}
 use Rattle.node.specs.Answers.{AnswersSome, AnswersWrite, FailsSome, HasGrown, HasKept}
 use Rattle.node.specs.Asking.{IsNextTimer, MayAskFire}
 use Rattle.node.specs.FireSteps.{IsLeftByHandler, IsSetAt}

@@ -3,7 +3,7 @@ use Rattle.std.specs.Prelude.{Option, Some, slice_get}
 use Rattle.std.specs.Option.{option_and_then}
 use Rattle.book.specs.Desks.{Sight}
 use Rattle.node.specs.Fits.{Fits}
-use Rattle.node.specs.Messages.{IsAddressed, IsVouchedFor}
+use Rattle.outbox.specs.Messages.{IsAddressed, IsVouchedFor}
 use Rattle.node.specs.Received.{outgoing_of, where_record}
 use Rattle.node.specs.Workers.{NodeView}
 use Rattle.node.proofs.FitLaws.{more-looked, outgoing-more}

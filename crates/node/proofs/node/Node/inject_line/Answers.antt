@@ -8,13 +8,13 @@ use Rattle.holdings.specs.Holding.{IsRefusedOf}
 use Rattle.node.specs.declared.outcome.NodeFault.{NodeFault}
 use Rattle.node.specs.declared.outcome.Outcome.{Outcome}
 use Rattle.node.specs.declared.outcome.Outcome.TheVariants as outcomes
-use Rattle.node.specs.declared.outgoing.Outgoing.{Outgoing}
+use Rattle.outbox.specs.declared.outgoing.Outgoing.{Outgoing}
 use Rattle.node.specs.Answers.{AnswersAsked, FailsAsked, HasGrown, HasKept}
 use Rattle.node.specs.Asking.{line_asked}
 use Rattle.node.specs.Fits.{Fits}
 use Rattle.node.specs.LineSteps.{HoldsLine, IsLineNext, line_deliveries}
-use Rattle.node.specs.Messages.{IsAddressed}
-use Rattle.node.specs.Workers.{NodeView, messages_from, worker_at}
+use Rattle.outbox.specs.Messages.{IsAddressed, messages_from}
+use Rattle.node.specs.Workers.{NodeView, worker_at}
 use Rattle.node.proofs.FitLaws.{Fits-kept, Fits-yielded, keeps-refused, more-looked, worker-kept}
 use Rattle.node.proofs.LineLaws.{Fits-injected, answers-injected, answers-uninjected, fails-uninjected, grown-line, next-line}
 use Rattle.node.proofs.node.Node.inject_line.Goals as goal

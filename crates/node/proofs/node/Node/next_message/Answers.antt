@@ -2,7 +2,7 @@ use Rattle.std.proofs.Common.{ap, subst, sym}
 use Rattle.std.specs.Prelude.{Option, Some}
 use Rattle.book.specs.Desks.{Sight}
 use Rattle.node.specs.Fits.{Fits}
-use Rattle.node.specs.Messages.{IsVouchedFor}
+use Rattle.outbox.specs.Messages.{IsVouchedFor}
 use Rattle.node.specs.Received.{outgoing_of}
 use Rattle.node.specs.Workers.{NodeView}
 use Rattle.node.proofs.FitLaws.{more-looked, outgoing-more}

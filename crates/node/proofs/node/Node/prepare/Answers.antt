@@ -1,8 +1,8 @@
 use Rattle.std.proofs.Common.{subst, sym}
-use Rattle.node.specs.Messages.{IsAddressed, IsOutgoing, IsVouchedFor}
+use Rattle.outbox.specs.Messages.{IsAddressed, IsOutgoing, IsVouchedFor}
 use Rattle.node.specs.Received.{note_of, outgoing_of}
 use Rattle.node.specs.declared.message.Message.{Message}
-use Rattle.node.specs.declared.outgoing.Outgoing.TheVariants as outgoing
+use Rattle.outbox.specs.declared.outgoing.Outgoing.TheVariants as outgoing
 use Rattle.node.proofs.OutLaws.{Fits-looked}
 use Rattle.node.proofs.ReceiveLaws.{so_met}
 use Rattle.node.proofs.StateLaws.{state-held}

@@ -1,9 +1,10 @@
 use Rattle.std.proofs.Common.{rules, ◌≡◌, ◌∙◌, ◌++◌, List, ap, length, map, subst, sym}
-use Rattle.node.specs.Answers.{IsSwept, sent_again}
+use Rattle.outbox.specs.Messages.{sent_again}
+use Rattle.node.specs.Answers.{IsSwept}
 use Rattle.node.specs.FireSteps.{AreAllWithin}
 use Rattle.node.specs.Fits.{Fits}
 use Rattle.node.specs.Workers.{NodeView}
-use Rattle.node.specs.declared.outgoing.Outgoing.{Outgoing}
+use Rattle.outbox.specs.declared.outgoing.Outgoing.{Outgoing}
 use Rattle.node.proofs.FirstLaws.{rows-within}
 use Rattle.node.proofs.SweepLaws.{Fits-swept, answers-swept}
 use Rattle.node.proofs.node.Node.sweep.Goals as goal

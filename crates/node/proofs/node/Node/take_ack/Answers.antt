@@ -1,9 +1,9 @@
 use Rattle.std.proofs.Common.{subst, sym}
 use Rattle.std.specs.Prelude.{IfOk}
 use Rattle.node.specs.Answers.{AnswersAckOf}
-use Rattle.node.specs.Messages.{IsVouchedFor}
+use Rattle.outbox.specs.Messages.{IsVouchedFor}
 use Rattle.node.specs.Received.{note_of, outgoing_of}
-use Rattle.node.specs.declared.outgoing.Outgoing.TheVariants as outgoing
+use Rattle.outbox.specs.declared.outgoing.Outgoing.TheVariants as outgoing
 use Rattle.node.proofs.LookLaws.{ack-later, grown-later, looked-later}
 use Rattle.node.proofs.OutLaws.{Fits-looked}
 use Rattle.node.proofs.ReceiveLaws.{so_met}

@@ -3,9 +3,9 @@ use Rattle.std.specs.Prelude.{Option, Some}
 use Rattle.std.specs.Option.{option_and_then}
 use Rattle.holdings.specs.Holding.{held_at, held_on}
 use Rattle.node.specs.Fits.{Fits}
-use Rattle.node.specs.Messages.{IsOutgoing}
+use Rattle.outbox.specs.Messages.{IsOutgoing}
 use Rattle.node.specs.Workers.{NodeView, WorkView}
-use Rattle.node.specs.declared.outgoing.Outgoing.TheVariants as outgoing
+use Rattle.outbox.specs.declared.outgoing.Outgoing.TheVariants as outgoing
 use Rattle.node.proofs.CopyLaws.{handled-held}
 use Rattle.node.proofs.ReceiveLaws.{Fits-again, Fits-new}
 use Rattle.node.proofs.node.Node.take_in.Goals as goal

@@ -3,7 +3,7 @@ use Rattle.std.specs.Prelude.{IfErr, IfOk, None, OnErr, Some, slice_get, slice_s
 use Rattle.list_lemmas.proofs.Told.{if-there}
 use Rattle.run_history.specs.Cases.{CaseShape}
 use Rattle.book.specs.OwnDesks.{own_view}
-use Rattle.node.specs.Messages.{IsAddressed}
+use Rattle.outbox.specs.Messages.{IsAddressed}
 use Rattle.node.specs.Received.{outgoing_of}
 use Rattle.node.specs.Workers.{worker_at}
 use Rattle.node.specs.declared.outcome.Outcome.TheVariants as outcomes

@@ -1,8 +1,0 @@
-use Rattle.std.proofs.Common.{◌≡◌, ◌++◌}
-use Rattle.node.specs.Workers.{messages_from}
-use Rattle.node.proofs.sends.messages_from.Given as goal
-
--- the messages so far and those of the deliveries that are left are all
-abbrev pub invariant-loop-delivery : goal.invariant-loop-delivery
-invariant-loop-delivery l =
-    l.all.items ++ messages_from l.name l.delivery-iterator.rest.items ≡ messages_from l.name l.fn.deliveries

@@ -1,0 +1,4 @@
+pub mod SendLaws
+pub mod PutLaws
+pub mod ReportLaws
+pub mod Sending

@@ -1,0 +1,4 @@
+pub mod Messages
+pub mod Outboxes
+pub mod WorkSteps
+pub mod Reports
