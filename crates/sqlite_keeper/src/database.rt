@@ -1,13 +1,15 @@
 //! The database of a keeper: its table, its statements and its transactions.
 //!
 //! Each call of the database stands in a function of its own and promises nothing: what a file holds can't
-//! be said here, and the clauses of several calls together would be carried into every proof.
+//! be said here, and the clauses of several calls together would be carried into every proof. Where it can be
+//! it is over any store, since the prover then need not see through the clauses for the store of a file.
 
 use crate::fault::fault_of;
 use key_intervals::Bounds;
 use mw_types::RowName;
 use row_keeper::KeeperFault;
-use sqlite::{Connection, Error, File, FileStore, Row, Statement, params};
+use sqlite::types::ValueRef;
+use sqlite::{Alter, Connection, Error, File, FileStore, Row, Statement, params};
 
 // The one table. Keys are blobs, since blobs stand in the order of their bytes.
 const TABLE: &str = "CREATE TABLE IF NOT EXISTS rows (part INTEGER NOT NULL, key BLOB NOT NULL, \
@@ -94,7 +96,8 @@ impl Database {
     /// The row with the least name, as a list of one row or none.
     pub(crate) fn first(&mut self) -> Result<Vec<Row>, KeeperFault> {
         self.standing()?;
-        match self.statements.first.query_all(&mut self.connection, &[]) {
+        let statement = &self.statements.first;
+        match rows_of(&mut self.connection, statement, &[]) {
             Ok(rows) => Ok(rows),
             Err(error) => Err(fault_of(error)),
         }
@@ -150,13 +153,13 @@ impl Database {
 
     // Whether a transaction is open.
     fn is_open(&self) -> bool {
-        !self.connection.is_autocommit()
+        has_begun(&self.connection)
     }
 
     // Runs a statement that has no parameter and answers no row.
     fn run(&mut self, sql: &str) -> Result<(), KeeperFault> {
-        match self.connection.execute(sql, &[]) {
-            Ok(_) => Ok(()),
+        match run(&mut self.connection, sql) {
+            Ok(()) => Ok(()),
             Err(error) => Err(fault_of(error)),
         }
     }
@@ -164,10 +167,12 @@ impl Database {
     // Sets the bytes of a row, in the open transaction.
     fn set(&mut self, name: &RowName, bytes: &[u8]) -> Result<(), Error> {
         let key = name.key.text().as_bytes();
-        self.statements
-            .put
-            .execute(&mut self.connection, params![name.part, key, bytes])?;
-        Ok(())
+        let statement = &self.statements.put;
+        done(
+            &mut self.connection,
+            statement,
+            params![name.part, key, bytes],
+        )
     }
 
     // The rows of an interval, as the database answers.
@@ -177,9 +182,12 @@ impl Database {
             Some(key) => Some(key.text().as_bytes()),
             None => None,
         };
-        self.statements
-            .range
-            .query_all(&mut self.connection, params![bounds.part, from, to])
+        let statement = &self.statements.range;
+        rows_of(
+            &mut self.connection,
+            statement,
+            params![bounds.part, from, to],
+        )
     }
 }
 
@@ -201,8 +209,8 @@ fn shut(database: Database) -> Result<(), KeeperFault> {
 // Opens a database that has the table.
 fn opened(rt: &HostRuntime, name: &str) -> Result<Connection<FileStore<File>>, Error> {
     let mut connection = Connection::open(rt, name)?;
-    match connection.execute_batch(TABLE) {
-        Ok(_) => Ok(connection),
+    match run_all(&mut connection, TABLE) {
+        Ok(()) => Ok(connection),
         Err(error) => {
             drop(connection);
             Err(error)
@@ -231,6 +239,45 @@ fn all_prepared(connection: &mut Connection<FileStore<File>>) -> Result<Statemen
 }
 
 // Prepares one statement. It is refused where the table has other columns or another key.
-fn prepared(connection: &mut Connection<FileStore<File>>, sql: &str) -> Result<Statement, Error> {
+fn prepared<S: Alter + Drop>(
+    connection: &mut Connection<S>,
+    sql: &str,
+) -> Result<Statement, Error> {
     connection.prepare(sql)
+}
+
+// Whether a transaction is open.
+fn has_begun<S: Alter + Drop>(connection: &Connection<S>) -> bool {
+    !connection.is_autocommit()
+}
+
+// Runs one statement that has no parameter and answers no row.
+fn run<S: Alter + Drop>(connection: &mut Connection<S>, sql: &str) -> Result<(), Error> {
+    connection.execute(sql, &[])?;
+    Ok(())
+}
+
+// Runs statements that have no parameter and answer no row.
+fn run_all<S: Alter + Drop>(connection: &mut Connection<S>, sql: &str) -> Result<(), Error> {
+    connection.execute_batch(sql)?;
+    Ok(())
+}
+
+// Does a statement that answers no row.
+fn done<S: Alter + Drop>(
+    connection: &mut Connection<S>,
+    statement: &Statement,
+    params: &[ValueRef<'_>],
+) -> Result<(), Error> {
+    statement.execute(connection, params)?;
+    Ok(())
+}
+
+// The rows that a statement answers.
+fn rows_of<S: Alter + Drop>(
+    connection: &mut Connection<S>,
+    statement: &Statement,
+    params: &[ValueRef<'_>],
+) -> Result<Vec<Row>, Error> {
+    statement.query_all(connection, params)
 }

@@ -1,13 +1,24 @@
-//! What the database itself answers over a file. One function has a connection, and no other file, since each
-//! function that calls one carries what its clauses tell.
+//! What the database itself answers over a file. One function has a connection of a file, and no other source, since
+//! each function that calls one carries what its clauses tell of its store.
 use crate::tests::made;
-use sqlite::{Connection, Row};
+use sqlite::{Alter, Connection, Row};
 use std::process::Abort;
 
 /// A row of a file: its part, its key and its bytes.
 pub type Told = (u32, &'static [u8], &'static [u8]);
 
-// What the database answers to a query on a file, after these statements.
+// What the database answers to a query, after these statements.
+fn asked<S: Alter + Drop>(
+    rt: &impl Abort,
+    connection: &mut Connection<S>,
+    statements: &str,
+    query: &str,
+) -> Vec<Row> {
+    made(rt, connection.execute_batch(statements));
+    made(rt, connection.query_all(query, &[]))
+}
+
+// The same on a file.
 fn answer(
     host: &HostRuntime,
     rt: &impl Abort,
@@ -16,8 +27,7 @@ fn answer(
     query: &str,
 ) -> Vec<Row> {
     let mut connection = made(rt, Connection::open(host, name));
-    made(rt, connection.execute_batch(statements));
-    let rows = made(rt, connection.query_all(query, &[]));
+    let rows = asked(rt, &mut connection, statements, query);
     drop(connection);
     rows
 }
