@@ -1,15 +1,16 @@
 //! The database of a keeper: its table, its statements and its transactions.
 //!
 //! Each call of the database stands in a function of its own and promises nothing: what a file holds can't
-//! be said here, and the clauses of several calls together would be carried into every proof. Where it can be
-//! it is over any store, since the prover then need not see through the clauses for the store of a file.
+//! be said here, and the clauses of several calls together would be carried into every proof. All is over any
+//! store, since the proof of each function that names the store of a file sees through all that this store is;
+//! `in_file` has the few that do.
 
 use crate::fault::fault_of;
 use key_intervals::Bounds;
 use mw_types::RowName;
 use row_keeper::KeeperFault;
-use sqlite::types::ValueRef;
-use sqlite::{Alter, Connection, Error, File, FileStore, Row, Statement, params};
+use sqlite::{Alter, Connection, Error, Row, Statement, params};
+use std::alloc::Global;
 
 // The one table. Keys are blobs, since blobs stand in the order of their bytes.
 const TABLE: &str = "CREATE TABLE IF NOT EXISTS rows (part INTEGER NOT NULL, key BLOB NOT NULL, \
@@ -38,10 +39,30 @@ struct Statements {
     first: Statement,
 }
 
+/// What a database is asked.
+#[derive(Drop)]
+pub(crate) enum Ask<'a> {
+    /// To set the bytes of a row. So many of these are one transaction, and where one of them fails so that
+    /// all are undone, each later call fails. The answer has no row.
+    Put {
+        /// The row's name.
+        name: &'a RowName,
+        /// The bytes.
+        bytes: &'a [u8],
+    },
+    /// For the rows of an interval.
+    Range {
+        /// The interval.
+        bounds: &'a Bounds,
+    },
+    /// For the row with the least name: the answer has one row or none.
+    First,
+}
+
 /// A connection to a database with the table, and the statements on it.
 #[derive(Drop)]
-pub(crate) struct Database {
-    connection: Connection<FileStore<File>>,
+pub(crate) struct Database<S: Alter + Drop> {
+    connection: Connection<S>,
     statements: Statements,
     // How many puts are not committed yet.
     waiting: u32,
@@ -49,11 +70,10 @@ pub(crate) struct Database {
     undone: bool,
 }
 
-impl Database {
-    /// Opens the database in the file of this name, or makes it. The file is this connection's alone until
-    /// it is dropped.
-    pub(crate) fn at(rt: &HostRuntime, name: &str) -> Result<Database, Error> {
-        let mut connection = opened(rt, name)?;
+impl<S: Alter + Drop> Database<S> {
+    /// Takes over a connection, and makes the table where there is none.
+    pub(crate) fn over(connection: Connection<S>) -> Result<Database<S>, Error> {
+        let mut connection = connection;
         match all_prepared(&mut connection) {
             Ok(statements) => Ok(Database {
                 connection,
@@ -68,10 +88,33 @@ impl Database {
         }
     }
 
-    /// Sets the bytes of a row. So many puts are one transaction, and where one of them fails so that all
-    /// are undone, each later call fails.
-    pub(crate) fn put(&mut self, name: &RowName, bytes: &[u8]) -> Result<(), KeeperFault> {
+    /// Does what is asked.
+    pub(crate) fn answer(&mut self, alloc: Global, ask: &Ask<'_>) -> Result<Vec<Row>, KeeperFault> {
         self.standing()?;
+        match ask {
+            Ask::Put { name, bytes } => {
+                self.put(name, bytes)?;
+                Ok(Vec::new(alloc))
+            }
+            Ask::Range { bounds } => self.range(bounds),
+            Ask::First => self.first(),
+        }
+    }
+
+    /// Commits what waits for it, and gives the connection back.
+    pub(crate) fn ended(self) -> Result<Connection<S>, KeeperFault> {
+        let mut database = self;
+        match database.commit_rest() {
+            Ok(()) => Ok(connection_of(database)),
+            Err(fault) => {
+                drop(database);
+                Err(fault)
+            }
+        }
+    }
+
+    // Sets the bytes of a row.
+    fn put(&mut self, name: &RowName, bytes: &[u8]) -> Result<(), KeeperFault> {
         self.begin()?;
         if let Err(error) = self.set(name, bytes) {
             self.undone = self.waiting > 0 && !self.is_open();
@@ -84,34 +127,19 @@ impl Database {
         Ok(())
     }
 
-    /// The rows of an interval.
-    pub(crate) fn range(&mut self, bounds: &Bounds) -> Result<Vec<Row>, KeeperFault> {
-        self.standing()?;
+    // The rows of an interval.
+    fn range(&mut self, bounds: &Bounds) -> Result<Vec<Row>, KeeperFault> {
         match self.read_range(bounds) {
             Ok(rows) => Ok(rows),
             Err(error) => Err(fault_of(error)),
         }
     }
 
-    /// The row with the least name, as a list of one row or none.
-    pub(crate) fn first(&mut self) -> Result<Vec<Row>, KeeperFault> {
-        self.standing()?;
-        let statement = &self.statements.first;
-        match rows_of(&mut self.connection, statement, &[]) {
+    // The row with the least name.
+    fn first(&mut self) -> Result<Vec<Row>, KeeperFault> {
+        match self.statements.first.query_all(&mut self.connection, &[]) {
             Ok(rows) => Ok(rows),
             Err(error) => Err(fault_of(error)),
-        }
-    }
-
-    /// Commits what waits for it, and takes the log into the file.
-    pub(crate) fn close(self) -> Result<(), KeeperFault> {
-        let mut database = self;
-        match database.commit_rest() {
-            Ok(()) => shut(database),
-            Err(fault) => {
-                drop(database);
-                Err(fault)
-            }
         }
     }
 
@@ -153,13 +181,13 @@ impl Database {
 
     // Whether a transaction is open.
     fn is_open(&self) -> bool {
-        has_begun(&self.connection)
+        !self.connection.is_autocommit()
     }
 
     // Runs a statement that has no parameter and answers no row.
     fn run(&mut self, sql: &str) -> Result<(), KeeperFault> {
-        match run(&mut self.connection, sql) {
-            Ok(()) => Ok(()),
+        match self.connection.execute(sql, &[]) {
+            Ok(_) => Ok(()),
             Err(error) => Err(fault_of(error)),
         }
     }
@@ -167,12 +195,10 @@ impl Database {
     // Sets the bytes of a row, in the open transaction.
     fn set(&mut self, name: &RowName, bytes: &[u8]) -> Result<(), Error> {
         let key = name.key.text().as_bytes();
-        let statement = &self.statements.put;
-        done(
-            &mut self.connection,
-            statement,
-            params![name.part, key, bytes],
-        )
+        self.statements
+            .put
+            .execute(&mut self.connection, params![name.part, key, bytes])?;
+        Ok(())
     }
 
     // The rows of an interval, as the database answers.
@@ -182,17 +208,14 @@ impl Database {
             Some(key) => Some(key.text().as_bytes()),
             None => None,
         };
-        let statement = &self.statements.range;
-        rows_of(
-            &mut self.connection,
-            statement,
-            params![bounds.part, from, to],
-        )
+        self.statements
+            .range
+            .query_all(&mut self.connection, params![bounds.part, from, to])
     }
 }
 
-// Takes the log of a database into the file, after all that waited is committed.
-fn shut(database: Database) -> Result<(), KeeperFault> {
+// The connection of a database that is given up.
+fn connection_of<S: Alter + Drop>(database: Database<S>) -> Connection<S> {
     let Database {
         connection,
         statements,
@@ -200,26 +223,12 @@ fn shut(database: Database) -> Result<(), KeeperFault> {
         undone: _,
     } = database;
     drop(statements);
-    match connection.close() {
-        Ok(()) => Ok(()),
-        Err(error) => Err(fault_of(error)),
-    }
+    connection
 }
 
-// Opens a database that has the table.
-fn opened(rt: &HostRuntime, name: &str) -> Result<Connection<FileStore<File>>, Error> {
-    let mut connection = Connection::open(rt, name)?;
-    match run_all(&mut connection, TABLE) {
-        Ok(()) => Ok(connection),
-        Err(error) => {
-            drop(connection);
-            Err(error)
-        }
-    }
-}
-
-// Prepares the statements.
-fn all_prepared(connection: &mut Connection<FileStore<File>>) -> Result<Statements, Error> {
+// Makes the table where there is none, and prepares the statements.
+fn all_prepared<S: Alter + Drop>(connection: &mut Connection<S>) -> Result<Statements, Error> {
+    connection.execute_batch(TABLE)?;
     let put = prepared(connection, PUT)?;
     let range = match prepared(connection, RANGE) {
         Ok(range) => range,
@@ -244,40 +253,4 @@ fn prepared<S: Alter + Drop>(
     sql: &str,
 ) -> Result<Statement, Error> {
     connection.prepare(sql)
-}
-
-// Whether a transaction is open.
-fn has_begun<S: Alter + Drop>(connection: &Connection<S>) -> bool {
-    !connection.is_autocommit()
-}
-
-// Runs one statement that has no parameter and answers no row.
-fn run<S: Alter + Drop>(connection: &mut Connection<S>, sql: &str) -> Result<(), Error> {
-    connection.execute(sql, &[])?;
-    Ok(())
-}
-
-// Runs statements that have no parameter and answer no row.
-fn run_all<S: Alter + Drop>(connection: &mut Connection<S>, sql: &str) -> Result<(), Error> {
-    connection.execute_batch(sql)?;
-    Ok(())
-}
-
-// Does a statement that answers no row.
-fn done<S: Alter + Drop>(
-    connection: &mut Connection<S>,
-    statement: &Statement,
-    params: &[ValueRef<'_>],
-) -> Result<(), Error> {
-    statement.execute(connection, params)?;
-    Ok(())
-}
-
-// The rows that a statement answers.
-fn rows_of<S: Alter + Drop>(
-    connection: &mut Connection<S>,
-    statement: &Statement,
-    params: &[ValueRef<'_>],
-) -> Result<Vec<Row>, Error> {
-    statement.query_all(connection, params)
 }

@@ -6,8 +6,9 @@ ghost use Rattle.row_keeper.specs.Rows.{AreInOrder, entry_of};
 ghost use Rattle.row_keeper.specs.declared.keeper.KeptRow.{KeptRow};
 
 use crate::check::checked;
-use crate::database::Database;
+use crate::database::Ask;
 use crate::fault::fault_of;
+use crate::in_file::{FileDatabase, asked, closed, opened};
 use crate::reading::{first_of, range_of};
 use key_intervals::Bounds;
 use mw_types::RowName;
@@ -18,7 +19,7 @@ use std::marker::Model;
 /// A keeper that holds its rows in a database, which contracts see as its count of faults.
 #[derive(Drop)]
 pub struct SqliteKeeper {
-    database: Database,
+    database: FileDatabase,
     faults: u64,
 }
 
@@ -39,7 +40,7 @@ impl SqliteKeeper {
     pub fn at(rt: &HostRuntime, name: &str) -> Result<SqliteKeeper, KeeperFault>
         ensures faultless { IfOk result (λ keeper. keeper ≡ 0) }
     {
-        match Database::at(rt, name) {
+        match opened(rt, name) {
             Ok(database) => Ok(SqliteKeeper {
                 database,
                 faults: 0,
@@ -51,7 +52,7 @@ impl SqliteKeeper {
     /// Commits the last puts, and takes the log into the file. `Failed` comes where puts that were answered
     /// with Ok are not all in the file. A keeper that is dropped instead loses the puts since its last commit.
     pub fn close(self) -> Result<(), KeeperFault> {
-        self.database.close()
+        closed(self.database)
     }
 }
 
@@ -69,7 +70,7 @@ fn counted(faults: &mut u64, fault: KeeperFault) -> KeeperFault
 // The rows that the database has of an interval.
 fn found_within(
     alloc: Global,
-    database: &mut Database,
+    database: &mut FileDatabase,
     bounds: &Bounds,
 ) -> Result<KeptRowList, KeeperFault>
     ensures covered { IfOk result (All (λ (row : KeptRow). covers bounds.now row.name ≡ true)) }
@@ -86,9 +87,9 @@ impl Keeper for SqliteKeeper {
 
     ghost faults = { λ k. k };
 
-    fn put(&mut self, _alloc: Global, name: &RowName, bytes: &[u8]) -> Result<(), KeeperFault> {
-        match self.database.put(name, bytes) {
-            Ok(()) => Ok(()),
+    fn put(&mut self, alloc: Global, name: &RowName, bytes: &[u8]) -> Result<(), KeeperFault> {
+        match asked(alloc, &mut self.database, &Ask::Put { name, bytes }) {
+            Ok(_) => Ok(()),
             Err(fault) => Err(counted(&mut self.faults, fault)),
         }
     }

@@ -10,6 +10,7 @@
 mod check;
 mod database;
 mod fault;
+mod in_file;
 mod keeper;
 mod reading;
 

@@ -1,7 +1,8 @@
 //! What the database answers, as rows.
 
-use crate::database::Database;
+use crate::database::Ask;
 use crate::fault::fault_of;
+use crate::in_file::{FileDatabase, asked};
 use key_intervals::Bounds;
 use mw_types::{Key, KeyRefusal, RowName, Seq};
 use row_keeper::{KeeperFault, KeptRow, KeptRowList};
@@ -11,19 +12,19 @@ use std::alloc::Global;
 /// The rows that the database answers for an interval.
 pub(crate) fn range_of(
     alloc: Global,
-    database: &mut Database,
+    database: &mut FileDatabase,
     bounds: &Bounds,
 ) -> Result<KeptRowList, KeeperFault> {
-    let rows = database.range(bounds)?;
+    let rows = asked(alloc, database, &Ask::Range { bounds })?;
     rows_of(alloc, rows.as_slice())
 }
 
 /// The row that the database answers as its first.
 pub(crate) fn first_of(
     alloc: Global,
-    database: &mut Database,
+    database: &mut FileDatabase,
 ) -> Result<Option<KeptRow>, KeeperFault> {
-    let rows = database.first()?;
+    let rows = asked(alloc, database, &Ask::First)?;
     match rows.first() {
         Some(row) => Ok(Some(row_of(alloc, row)?)),
         None => Ok(None),
