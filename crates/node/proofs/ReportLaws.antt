@@ -2,7 +2,7 @@
 use Rattle.std.proofs.Common.{◌≡◌, ◌∙◌, ℕ, List, refl, sym, ap, subst}
 use Rattle.std.specs.Prelude.{IfErr, IfOk, IfSome, IsSome, Option, Some, None, slice_get}
 use Rattle.run_history.specs.Cases.{CaseShape, intervals_of}
-use Rattle.book.specs.DeskReasons.{HasReason, IsReportRefusal}
+use Rattle.book.specs.DeskReasons.{HasReason}
 use Rattle.book.specs.Desks.{DeskView, HasLooked}
 use Rattle.book.specs.declared.desk_refusal.DeskRefusal.{DeskRefusal}
 use Rattle.book.specs.declared.desk_refusal.DeskRefusal.TheVariants as refusals
@@ -11,7 +11,7 @@ use Rattle.node.specs.Answers.{AnswersReport, AnswersReportOf, FailsReport}
 use Rattle.node.specs.Fits.{Fits}
 use Rattle.node.specs.Steps.{HasYielded, answered}
 use Rattle.node.specs.Workers.{NodeView, WorkView, worker_at}
-use Rattle.outbox.specs.Reports.{IsReportOf}
+use Rattle.outbox.specs.Reports.{IsReportOf, IsUnreported}
 use Rattle.outbox.specs.declared.outgoing.Outgoing.{Outgoing}
 use Rattle.node.specs.declared.outcome.NodeFault.TheVariants as faults
 use Rattle.node.specs.declared.outcome.Outcome.TheVariants as outcomes
@@ -70,7 +70,7 @@ reason-held old new None why there reason = absurd cc
 reason-held old new (Some held) why there reason = fails-refused old new held.lease why reason
 
 -- a report that was refused fails for lack of memory alone
-pub memory-alone : (why : DeskRefusal) → IsReportRefusal why → IfErr (answered why) (λ fault. fault ≡ faults.NoMemory)
+pub memory-alone : (why : DeskRefusal) → IsUnreported why → IfErr (answered why) (λ fault. fault ≡ faults.NoMemory)
 memory-alone (refusals.Busy found) only = tt
 memory-alone (refusals.Stale newer) only = tt
 memory-alone refusals.HistoryFull only = absurd only

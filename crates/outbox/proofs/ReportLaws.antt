@@ -7,12 +7,13 @@ use Rattle.run_history.specs.Marks.{own_work}
 use Rattle.run_history.specs.Runs.{cached}
 use Rattle.watermark.specs.Marks.{mark_of}
 use Rattle.book.specs.Books.{LeaseView}
-use Rattle.book.specs.DeskReasons.{HasReason}
+use Rattle.book.specs.DeskReasons.{HasReason, IsReportRefusal}
 use Rattle.book.specs.Desking.{IsReported}
 use Rattle.book.specs.Desks.{DeskView}
 use Rattle.book.specs.declared.desk_refusal.DeskRefusal.{DeskRefusal}
+use Rattle.book.specs.declared.desk_refusal.DeskRefusal.TheVariants as refusals
 use Rattle.holdings.specs.Holding.{HeldView, IsRefusedOf, held_at}
-use Rattle.outbox.specs.Reports.{IsReportOf}
+use Rattle.outbox.specs.Reports.{IsReportOf, IsUnreported}
 
 -- the own work of what is held was reported under its lease
 pub report-of : (case : CaseShape) (old new : DeskView) (all : List (Option HeldView)) (interval : ℕ) (held : HeldView)
@@ -40,3 +41,13 @@ reason-of old new all interval held lease (Ok mark) at same is = tt
 reason-of old new all interval held lease (Err why) at same is =
     subst (λ (o : Option HeldView). IfSome o (λ here. HasReason old new here.lease why)) (sym at)
     (subst (λ (l : LeaseView). HasReason old new l why) same is)
+
+-- as a desk refuses a report
+pub unreported-of : (result : Result ℕ DeskRefusal) → IfErr result IsReportRefusal → IfErr result IsUnreported
+unreported-of (Ok mark) is = tt
+unreported-of (Err (refusals.Busy found)) is = is
+unreported-of (Err (refusals.Stale newer)) is = is
+unreported-of (Err refusals.HistoryFull) is = is
+unreported-of (Err refusals.KeeperFault) is = is
+unreported-of (Err (refusals.RowDamaged name bytes)) is = is
+unreported-of (Err refusals.NoMemory) is = tt

@@ -2,10 +2,9 @@
 ghost use Rattle.std.specs.Prelude.{◌≡◌, ◌<◌, ◌≤◌, ℕ, true, IfErr, IfOk, IfSome, IsSome, OnErr, length};
 ghost use Rattle.run_history.specs.Cases.{intervals_of};
 ghost use Rattle.watermark.specs.Marks.{mark_of};
-ghost use Rattle.book.specs.DeskReasons.{IsReportRefusal};
 ghost use Rattle.book.specs.Desks.{HasLooked};
 ghost use Rattle.holdings.specs.Holding.{AreAllHeld, IsRefusedOf, held_at};
-ghost use Rattle.outbox.specs.Reports.{IsReportOf};
+ghost use Rattle.outbox.specs.Reports.{IsReportOf, IsUnreported};
 
 use book::{Desk, DeskRefusal};
 use holdings::Holdings;
@@ -34,7 +33,7 @@ pub fn report_work<D: Desk>(
     ensures looked { HasLooked (D.view desk.old) (D.view desk.new) }
     ensures reason { IfErr result
         (IsRefusedOf (D.view desk.old) (D.view desk.new) held.old interval) }
-    ensures only { IfErr result IsReportRefusal }
+    ensures only { IfErr result IsUnreported }
     ensures rise { (i : ℕ) →
         mark_of (D.view desk.old).marks i ≤ mark_of (D.view desk.new).marks i }
     ensures unchanged { (D.view desk.old).alone ≡ true →

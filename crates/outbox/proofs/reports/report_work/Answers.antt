@@ -1,7 +1,7 @@
 use Rattle.std.proofs.Common.{rules, ◌≡◌, ◌∙◌, List, ap, sym}
 use Rattle.std.specs.Prelude.{Option, Some}
 use Rattle.holdings.specs.Holding.{HeldView, held_at}
-use Rattle.outbox.proofs.ReportLaws.{reason-of, report-of}
+use Rattle.outbox.proofs.ReportLaws.{reason-of, report-of, unreported-of}
 use Rattle.outbox.proofs.reports.report_work.Goals as goal
 
 -- the desk answers by the own work of what is held, under its lease
@@ -25,3 +25,6 @@ returns-clause-reason g c =
     let at : held_at all c.args.interval ≡ Some held = ap (λ (h : List (Option HeldView)). held_at h c.args.interval) (sym same) ∙ here in
     reason-of (g.D.Desk.view c.args.desk.now) (g.D.Desk.view c.report.new.self) all c.args.interval held c.lease.result.now
     c.report.result at c.lease.ensures.lease c.report.ensures.reason
+
+pub returns-clause-only : goal.returns-clause-only
+returns-clause-only g c = unreported-of c.report.result c.report.ensures.only
