@@ -33,7 +33,7 @@ use Rattle.holdings.specs.Holding.{HeldView, held_at, held_on, row_held}
 use Rattle.holdings.specs.Pendings.{IsPendingAmong}
 use Rattle.holdings.specs.declared.pending.Sent.{Sent}
 use Rattle.node.specs.Asking.{MayAskFire, MayAskForget, MayAskPurge, Request, settling}
-use Rattle.outbox.specs.Messages.{messages_from}
+use Rattle.outbox.specs.Messages.{messages_from, sent_again}
 use Rattle.node.specs.Workers.{NodeView, Worker, sends, with_lease, with_outgoing, worker_at}
 use Rattle.node.specs.declared.outcome.NodeFault.{NodeFault}
 use Rattle.node.specs.declared.outcome.NodeFault.TheVariants as faults
