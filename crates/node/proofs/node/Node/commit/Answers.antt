@@ -1,5 +1,5 @@
 use Rattle.std.proofs.Common.{◌≡◌, ◌∙◌, ap, subst, sym, refl}
-use Rattle.std.specs.Prelude.{IfErr, IfOk, IsSome, OnErr, Option, Some, Result, tt}
+use Rattle.std.specs.Prelude.{IfErr, IfOk, IsSome, OnErr, Option, Some, Result}
 use Rattle.holdings.specs.Holding.{HeldView, IsRefusedOf}
 use Rattle.node.specs.declared.outcome.NodeFault.{NodeFault}
 use Rattle.node.specs.declared.outcome.Outcome.{Outcome}
@@ -46,7 +46,7 @@ write_work-written-requires-clause-there g c =
     let handled = work-of case old node work c.parts-parts.result.0.now c.parts-parts.result.1.now
     (subst (Fits case old) (sym c.self.view_is) c.requires.fits) c.in-Some.is c.parts-parts.ensures in
     subst (λ (o : Option HeldView). IsSome o) (sym (held-at-on case.topology node.held c.parts-parts.result.0.now.to c.interval_of-interval.result
-    handled.held handled.there c.interval_of-interval.ensures.interval)) tt
+    handled.held handled.there c.interval_of-interval.ensures.interval)) refl
 
 -- the work may be proposed
 pub write_work-written-requires-clause-proposal : goal.write_work-written-requires-clause-proposal
@@ -57,8 +57,9 @@ write_work-written-requires-clause-proposal g c =
     let node : NodeView = record { number = c.self.inside.number; held = c.self.inside.held; prepared = c.self.inside.prepared; outbox = c.self.inside.outbox.messages } in
     let handled = work-of case old node work c.parts-parts.result.0.now c.parts-parts.result.1.now
     (subst (Fits case old) (sym c.self.view_is) c.requires.fits) c.in-Some.is c.parts-parts.ensures in
-    work-proposable case old node.held work.sender c.parts-parts.result.0.now c.parts-parts.result.1.now work.proposal
-    c.interval_of-interval.result c.parts-parts.ensures c.interval_of-interval.ensures.interval handled
+    let parts = ap (λ (w : WorkView). w.proposal) c.work.view_is ∙ c.parts-parts.ensures in
+    work-proposable case old node.held work.sender c.parts-parts.result.0.now c.parts-parts.result.1.now c.work.inside.proposal
+    c.interval_of-interval.result parts c.interval_of-interval.ensures.interval handled
 
 -- and its record was made
 pub write_work-written-requires-clause-known : goal.write_work-written-requires-clause-known
@@ -69,8 +70,9 @@ write_work-written-requires-clause-known g c =
     let node : NodeView = record { number = c.self.inside.number; held = c.self.inside.held; prepared = c.self.inside.prepared; outbox = c.self.inside.outbox.messages } in
     let handled = work-of case old node work c.parts-parts.result.0.now c.parts-parts.result.1.now
     (subst (Fits case old) (sym c.self.view_is) c.requires.fits) c.in-Some.is c.parts-parts.ensures in
-    work-known case old node.held work.sender c.parts-parts.result.0.now c.parts-parts.result.1.now work.proposal
-    c.parts-parts.ensures c.requires.fits.of_case handled
+    let parts = ap (λ (w : WorkView). w.proposal) c.work.view_is ∙ c.parts-parts.ensures in
+    work-known case old node.held work.sender c.parts-parts.result.0.now c.parts-parts.result.1.now c.work.inside.proposal
+    parts c.requires.fits.of_case handled
 
 -- once the work is written
 pub returns-in-Ok-clause-fits : goal.returns-in-Ok-clause-fits
@@ -79,7 +81,9 @@ returns-in-Ok-clause-fits g c =
     let shape = case.topology in
     let old = g.D.Desk.view c.args.desk.now in
     let new = g.D.Desk.view c.write_work-written.new.desk in
-    let work : WorkView = record { sender = c.in-Some.work.sender; proposal = c.in-Some.work.proposal } in
+    let work : WorkView = record { sender = c.work.inside.sender; proposal = c.work.inside.proposal } in
+    let is = c.in-Some.is ∙ ap (λ (w : WorkView). Some w) (sym c.work.view_is) in
+    let parts = ap (λ (w : WorkView). w.proposal) c.work.view_is ∙ c.parts-parts.ensures in
     let delivery = c.parts-parts.result.0.now in
     let effects = c.parts-parts.result.1.now in
     let node : NodeView = record { number = c.self.inside.number; held = c.self.inside.held; prepared = c.self.inside.prepared; outbox = c.self.inside.outbox.messages } in
@@ -87,8 +91,8 @@ returns-in-Ok-clause-fits g c =
     let commit = c.in-Ok.commit in
     subst (Fits case new) (node-written shape c.write_work-written.new.held work.sender delivery effects commit node c.unprepared.new.prepared c.write_work-written.new.outbox.messages
     c.unprepared.ensures c.in-Ok.ensures.sent)
-    (Fits-committed case old new node c.write_work-written.new.held work delivery effects c.interval_of-interval.result commit c.in-Some.is
-    c.parts-parts.ensures c.in-Ok.ensures.written c.in-Ok.ensures.fits c.sound.ensures.sound c.in-Ok.ensures.addressed fits)
+    (Fits-committed case old new node c.write_work-written.new.held work delivery effects c.interval_of-interval.result commit is
+    parts c.in-Ok.ensures.written c.in-Ok.ensures.fits c.sound.ensures.sound c.in-Ok.ensures.addressed fits)
 
 pub returns-in-Ok-clause-answers : goal.returns-in-Ok-clause-answers
 returns-in-Ok-clause-answers g c =
@@ -96,7 +100,9 @@ returns-in-Ok-clause-answers g c =
     let shape = case.topology in
     let old = g.D.Desk.view c.args.desk.now in
     let new = g.D.Desk.view c.write_work-written.new.desk in
-    let work : WorkView = record { sender = c.in-Some.work.sender; proposal = c.in-Some.work.proposal } in
+    let work : WorkView = record { sender = c.work.inside.sender; proposal = c.work.inside.proposal } in
+    let is = c.in-Some.is ∙ ap (λ (w : WorkView). Some w) (sym c.work.view_is) in
+    let parts = ap (λ (w : WorkView). w.proposal) c.work.view_is ∙ c.parts-parts.ensures in
     let delivery = c.parts-parts.result.0.now in
     let effects = c.parts-parts.result.1.now in
     let node : NodeView = record { number = c.self.inside.number; held = c.self.inside.held; prepared = c.self.inside.prepared; outbox = c.self.inside.outbox.messages } in
@@ -108,17 +114,18 @@ returns-in-Ok-clause-answers g c =
     (subst (λ (n : NodeView). AnswersAsked shape old new (work_asked shape node) (with_written (sending_of node) (worker_at node)) node n (outcomes.Committed commit))
     (node-written shape c.write_work-written.new.held work.sender delivery effects commit node c.unprepared.new.prepared c.write_work-written.new.outbox.messages
     c.unprepared.ensures c.in-Ok.ensures.sent)
-    (answers-written case old new node c.write_work-written.new.held work delivery effects c.interval_of-interval.result commit c.in-Some.is
-    c.parts-parts.ensures c.interval_of-interval.ensures.interval c.in-Ok.ensures.written
-    (work-of case old node work delivery effects fits c.in-Some.is c.parts-parts.ensures).sent))
+    (answers-written case old new node c.write_work-written.new.held work delivery effects c.interval_of-interval.result commit is
+    parts c.interval_of-interval.ensures.interval c.in-Ok.ensures.written
+    (work-of case old node work delivery effects fits is parts).sent))
 
 pub returns-in-Ok-clause-grown : goal.returns-in-Ok-clause-grown
 returns-in-Ok-clause-grown g c =
     let old = g.D.Desk.view c.args.desk.now in
     let new = g.D.Desk.view c.write_work-written.new.desk in
+    let parts = ap (λ (w : WorkView). w.proposal) c.work.view_is ∙ c.parts-parts.ensures in
     subst (λ (n : NodeView). HasGrown n.held old new) c.self.view_is
-    (grown-work c.args.case.now.topology old new c.interval_of-interval.result c.in-Some.work.proposal c.parts-parts.result.0.now c.parts-parts.result.1.now
-    c.in-Ok.commit c.self.inside.held c.write_work-written.new.held c.parts-parts.ensures c.in-Ok.ensures.written)
+    (grown-work c.args.case.now.topology old new c.interval_of-interval.result c.work.inside.proposal c.parts-parts.result.0.now c.parts-parts.result.1.now
+    c.in-Ok.commit c.self.inside.held c.write_work-written.new.held parts c.in-Ok.ensures.written)
 
 -- where the desk refused
 pub returns-in-Err-clause-fits : goal.returns-in-Err-clause-fits
