@@ -13,7 +13,7 @@ use Rattle.trace_lines.specs.Lines.{text_of_entry}
 use Rattle.trace_lines.proofs.Choosing.{choice_at-entry}
 use Rattle.trace_lines.proofs.EntryLaws.{next-entry}
 use Rattle.trace_lines.proofs.OneReading.{choice_of-fixes}
-use Rattle.standing.specs.Choices.{IsChosen, MayCome}
+use Rattle.audit.specs.Choices.{IsChosen, MayCome}
 use Rattle.audit.specs.Steps.{HasRoom, IsNextRead}
 
 -- what may come next is within the bounds of its types

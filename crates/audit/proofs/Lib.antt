@@ -1,3 +1,12 @@
+pub mod ChoiceLaws
+pub mod WaitingLaws
+pub mod FoundLaws
+pub mod LeavingLaws
+pub mod KeepingLaws
+pub mod LowLaws
+pub mod FiringLaws
+pub mod WorkLaws
+pub mod WorkSteps
 pub mod Printing
 pub mod Reading
 pub mod OneResult

@@ -12,7 +12,7 @@ use Rattle.trace_lines.specs.Lines.{IsCut, begins_entry, entry_lines_in, lines_i
 use Rattle.trace_lines.specs.Readings.{texts_from, IsReading, IsFirstUnread}
 use Rattle.trace_lines.proofs.OneReading.{comes-next, reading-long, reading-one}
 use Rattle.trace_lines.proofs.Parting.{begin-from, take_while-passed}
-use Rattle.standing.specs.Choices.{MayCome}
+use Rattle.audit.specs.Choices.{MayCome}
 use Rattle.audit.specs.Steps.{IsReal, IsHeadOf, IsNextRead, IsOneMore, IsReadTo}
 use Rattle.audit.proofs.Printing.{texts_from-append, lines-push, texts-many, lines-long}
 

@@ -17,7 +17,7 @@ use Rattle.trace_lines.specs.Lines.{IsCut, begins_entry, entry_lines_in, lines_i
 use Rattle.trace_lines.specs.Entries.{IsEntryLine}
 use Rattle.trace_lines.specs.Readings.{texts_from}
 use Rattle.trace_lines.specs.Values.{AreValued}
-use Rattle.standing.specs.Choices.{MayCome}
+use Rattle.audit.specs.Choices.{MayCome}
 
 -- a case is such as a real one is
 pub record IsReal (case : CaseShape) : Type 0 where

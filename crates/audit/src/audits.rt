@@ -8,9 +8,9 @@ use crate::behind::concluded;
 use crate::chosen::entry_read;
 use crate::forms::why_unread;
 use crate::heads::first_entry_line;
+use crate::standings::Standing;
 use history_laws::case_is_runnable;
 use run_history::{Case, History};
-use standing::Standing;
 use std::alloc::Global;
 use trace_lines::{AuditRefusal, case_is_keyed};
 

@@ -2,8 +2,8 @@
 ghost use Rattle.std.specs.Prelude.{◌≡◌, ◌<◌, ◌+◌, ◌^◌, IfErr, IfOk, length};
 ghost use Rattle.audit.specs.Steps.{IsEndRefusal, IsWholeRun};
 
+use crate::standings::Standing;
 use run_history::{Case, History, result_text};
-use standing::Standing;
 use std::alloc::Global;
 use trace_lines::{AuditRefusal, AuditWhy};
 

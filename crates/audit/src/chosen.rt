@@ -1,14 +1,14 @@
 //! The entry that a line tells.
 ghost use Rattle.std.specs.Prelude.{◌≡◌, IfOk, IfSome, Some};
 ghost use Rattle.trace_lines.specs.Choices.{choice_at, choice_of};
-ghost use Rattle.standing.specs.Choices.{MayCome};
+ghost use Rattle.audit.specs.Choices.{MayCome};
 ghost use Rattle.audit.specs.Steps.{HasRoom, IsNextRead, IsReal};
 ghost use Rattle.std.specs.Prelude.{◌<◌, ◌+◌, ◌^◌, length};
 
 use crate::printed::is_line_of;
 use crate::quick::choice_guessed;
+use crate::standings::Standing;
 use mw_types::{Entry, NoMemory};
-use standing::Standing;
 use std::alloc::Global;
 use trace_lines::{Choice, choice_at};
 

@@ -12,10 +12,10 @@ use injector::{Items, ItemsList, LinesRefusal, read_lines};
 use mw_types::{NoMemory, Seq};
 use plans::{Actions, read_actions};
 use run_history::Case;
-use schedules::{Schedule, read_schedule};
 use std::alloc::Global;
 use task_runs::Before;
 use topology::{Topology, read};
+use world::{Schedule, read_schedule};
 
 /// The topology that these bytes are taken for, which has an injector for each event file.
 pub fn topology_of(alloc: Global, count: u32, bytes: &[u8]) -> Result<Topology, Refusal>

@@ -14,19 +14,19 @@ use Rattle.book.specs.Books.{BookView}
 use Rattle.node.specs.declared.outcome.NodeFault.{NodeFault}
 use Rattle.node.specs.declared.outcome.NodeFault.TheVariants as faults
 use Rattle.node.specs.declared.outcome.Outcome.{Outcome}
-use Rattle.scripts.specs.Acts.{world_after}
-use Rattle.scripts.specs.Keeping.{AppendsAtMostOne}
-use Rattle.scripts.specs.declared.step.Step.{Step}
+use Rattle.world.specs.Acts.{world_after}
+use Rattle.world.specs.Keeping.{AppendsAtMostOne}
+use Rattle.world.specs.declared.step.Step.{Step}
 use Rattle.world.specs.ScriptRuns.{IsRunning}
 use Rattle.world.specs.Stepping.{HasActed}
 use Rattle.world.specs.WorldStates.{WorldState, world_of}
 use Rattle.world.proofs.RunLaws.{faulted-history, run-begun, run-more}
-use Rattle.drains.specs.Turns.{HasFailed, HasGone, WhereTold, with_own}
-use Rattle.drains.specs.Drains.{HasEnded, IsDraining, IsNextEntry}
-use Rattle.drains.specs.DrainTurns.{DrainView, HasDrained, IsGoingOn}
-use Rattle.drains.proofs.DrainTurnLaws.{going-failed, going-full}
-use Rattle.drains.proofs.WholeDrains.{draining-push}
-use Rattle.drains.proofs.GoLaws.{gone-not, gone-step}
+use Rattle.world.specs.Turns.{HasFailed, HasGone, WhereTold, with_own}
+use Rattle.world.specs.Drains.{HasEnded, IsDraining, IsNextEntry}
+use Rattle.world.specs.DrainTurns.{DrainView, HasDrained, IsGoingOn}
+use Rattle.world.proofs.DrainTurnLaws.{going-failed, going-full}
+use Rattle.world.proofs.WholeDrains.{draining-push}
+use Rattle.world.proofs.GoLaws.{gone-not, gone-step}
 use Rattle.live_outlet.specs.Outlets.{IsPumpedFrom, OutletView}
 use Rattle.live_outlet.proofs.Pumping.{pumped-grown}
 use Rattle.task_runs.specs.declared.live.LiveFault.{LiveFault}

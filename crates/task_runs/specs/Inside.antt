@@ -16,11 +16,11 @@ use Rattle.book.specs.Books.{BookView}
 use Rattle.book.specs.DeskReasons.{IsDamageOf}
 use Rattle.book.specs.OwnDesks.{own_view, telling}
 use Rattle.node.specs.Answers.{refusal_of}
-use Rattle.drains.specs.Turns.{HasFailed}
-use Rattle.drains.specs.DrainTurns.{HasDrained, IsFullBefore}
-use Rattle.crews.specs.Rounds.{IsDamageAt, first_claims, rounds_room}
+use Rattle.world.specs.Turns.{HasFailed}
+use Rattle.world.specs.DrainTurns.{HasDrained, IsFullBefore}
+use Rattle.workers.specs.Rounds.{IsDamageAt, first_claims, rounds_room}
 use Rattle.node.specs.declared.outcome.Outcome.{Outcome}
-use Rattle.scripts.specs.declared.step.Step.{Step}
+use Rattle.world.specs.declared.step.Step.{Step}
 use Rattle.world.specs.Stepping.{HasActed, HasFaulted}
 use Rattle.world.specs.WorldStates.{WorldState}
 use Rattle.book.specs.declared.refusals.StartWhy.{StartWhy}

@@ -6,13 +6,13 @@ ghost use Rattle.mw_types.specs.declared.entry.Entry.{Entry as Happened};
 ghost use Rattle.topology.specs.Shapes.{Shape as Form};
 ghost use Rattle.run_history.specs.Fences.{Begins};
 ghost use Rattle.run_history.specs.Texts.{as_line, summary_data};
-ghost use Rattle.scripts.specs.Acts.{world_after};
-ghost use Rattle.scripts.specs.Keeping.{AppendsAtMostOne};
-ghost use Rattle.scripts.specs.Worlds.{empty_world};
-ghost use Rattle.scripts.specs.Steps.{IsStep};
-ghost use Rattle.drains.specs.Drains.{HasEnded, IsDraining};
-ghost use Rattle.drains.specs.Turns.{HasGone, WhereTold};
-ghost use Rattle.drains.specs.DrainTurns.{HasDrained};
+ghost use Rattle.world.specs.Acts.{world_after};
+ghost use Rattle.world.specs.Keeping.{AppendsAtMostOne};
+ghost use Rattle.world.specs.Worlds.{empty_world};
+ghost use Rattle.world.specs.Steps.{IsStep};
+ghost use Rattle.world.specs.Drains.{HasEnded, IsDraining};
+ghost use Rattle.world.specs.Turns.{HasGone, WhereTold};
+ghost use Rattle.world.specs.DrainTurns.{HasDrained};
 ghost use Rattle.live_outlet.specs.Outlets.{IsPumpedFrom};
 ghost use Rattle.world.specs.Replays.{IsReplayed, IsWholeReplay};
 ghost use Rattle.world.specs.WorldDrains.{HasDrain};
@@ -28,7 +28,6 @@ use crate::status::Status;
 use crate::task::{Before, Task};
 use crate::text::{status_of_sink, written};
 use computations::Computation;
-use drains::{drains_begin_the_drained_history, drains_leave_no_work};
 use live_outlet::Outlet;
 use mw_ports::{Sink, SinkFault};
 use mw_types::NoMemory;
@@ -36,7 +35,7 @@ use node::NodeFault;
 use row_keeper::Keeper;
 use run_history::summary_line;
 use std::alloc::Global;
-use world::{Drain, Step, World};
+use world::{Drain, Step, World, drains_begin_the_drained_history, drains_leave_no_work};
 
 /// Why a run was stopped whose results are written at once.
 #[derive(Drop)]

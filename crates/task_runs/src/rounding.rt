@@ -17,11 +17,6 @@ use crate::task::{Before, Task};
 use crate::text::write;
 use book::Book;
 use computations::{Computation, Kinds};
-use crews::{Rounds, rounds};
-use drains::{
-    drain, drains_begin_the_drained_history, drains_grow_by_their_next_entries,
-    drains_leave_no_work,
-};
 use mw_ports::{Gate, Sink};
 use mw_types::NoMemory;
 use node::NodeFault;
@@ -30,6 +25,11 @@ use row_keeper::Keeper;
 use std::alloc::Global;
 use std::sync::Wait;
 use std::thread::Threads;
+use workers::{Rounds, rounds};
+use world::{
+    drain, drains_begin_the_drained_history, drains_grow_by_their_next_entries,
+    drains_leave_no_work,
+};
 
 /// Runs a task that has rounds over a keeper to its end, and writes its text. What the rounds leave is worked off by
 /// the caller's own thread.

@@ -9,9 +9,9 @@ ghost use Rattle.book.specs.Lawful.{IsLawful};
 ghost use Rattle.book.specs.OwnDesks.{own_view};
 ghost use Rattle.node.specs.Answers.{refusal_of};
 ghost use Rattle.node.specs.Works.{IsWorkOf};
-ghost use Rattle.scripts.specs.Worlds.{empty_world};
+ghost use Rattle.world.specs.Worlds.{empty_world};
 ghost use Rattle.world.specs.Replays.{IsReplayed, IsWholeReplay};
-ghost use Rattle.scripts.specs.Steps.{IsStep};
+ghost use Rattle.world.specs.Steps.{IsStep};
 ghost use Rattle.world.specs.WorldStates.{world_of};
 ghost use Rattle.task_runs.specs.Limits.{history_limit};
 ghost use Rattle.task_runs.specs.Answers.{Left, RunLeaves};
@@ -25,14 +25,15 @@ use crate::task::{Before, Task};
 use crate::text::write;
 use book::{Book, StartRefusal, StartWhy};
 use computations::{Computation, Kinds};
-use drains::{drains_begin_the_drained_history, drains_leave_no_work};
 use mw_ports::Sink;
 use mw_types::NoMemory;
 use node::NodeFault;
 use plain_answer::results_are_the_plain_count;
 use row_keeper::Keeper;
 use std::alloc::Global;
-use world::{Step, World, WorldRefusal, run_script};
+use world::{
+    Step, World, WorldRefusal, drains_begin_the_drained_history, drains_leave_no_work, run_script,
+};
 
 /// How many entries a history may have.
 pub(crate) const HISTORY_MAX: u64 = 1 << 32;

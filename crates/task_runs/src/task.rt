@@ -4,7 +4,7 @@ ghost use Rattle.task_runs.specs.Tasks.{is_at_once, wanted_of};
 
 use plans::Actions;
 use run_history::Case;
-use schedules::Schedule;
+use world::Schedule;
 
 /// What is to be written of a run.
 #[derive(Drop, Clone, Copy)]

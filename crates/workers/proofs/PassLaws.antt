@@ -12,8 +12,8 @@ use Rattle.run_history.specs.Cases.{CaseShape, intervals_of}
 use Rattle.run_history.specs.Fences.{interval_of}
 use Rattle.run_history.proofs.IntervalLaws.{interval_of-has}
 use Rattle.book.specs.Desks.{DeskView}
-use Rattle.mailboxes.specs.declared.mailbox.Mailbox.{Mailbox}
-use Rattle.mailboxes.specs.declared.passes.MailPass.{MailPass}
+use Rattle.workers.specs.declared.mailbox.Mailbox.{Mailbox}
+use Rattle.workers.specs.declared.passes.MailPass.{MailPass}
 use Rattle.node.specs.Fits.{Fits}
 use Rattle.node.specs.Workers.{NodeView, leases_of}
 use Rattle.workers.specs.Passing.{ArePasses}

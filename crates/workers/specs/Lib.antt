@@ -1,3 +1,13 @@
+pub mod Rounds
+pub mod Boxes
+pub mod Seats
+pub mod Crews
+pub mod Claims
+pub mod Tries
+pub mod Actions
+pub mod Runs
+pub mod Mailboxes
+pub mod PassLists
 pub mod Slices
 pub mod Passing
 pub mod Serving

@@ -1,8 +1,8 @@
 -- The mailboxes of a run and a worker's passes of them. Own.
 use Rattle.std.specs.Prelude.{◌≡◌, ◌<◌, ℕ, List, length, slice_index_or}
 use Rattle.crossbeam_queue.specs.Passes.{IsPassOf}
-use Rattle.mailboxes.specs.declared.mailbox.Mailbox.{Mailbox}
-use Rattle.mailboxes.specs.declared.passes.MailPass.{MailPass}
+use Rattle.workers.specs.declared.mailbox.Mailbox.{Mailbox}
+use Rattle.workers.specs.declared.passes.MailPass.{MailPass}
 
 -- a worker has so many mailboxes, and one pass of each, in the same order
 pub record ArePasses {N J : Type 0} (count : ℕ) (boxes : List (Mailbox N J))

@@ -8,8 +8,10 @@ ghost use Rattle.node.specs.Received.{note_of, outgoing_of};
 ghost use Rattle.workers.specs.Passing.{ArePasses};
 ghost use Rattle.workers.specs.Serving.{HasServed};
 
+use crate::mailbox::Mailbox;
+use crate::office::Office;
+use crate::passes::MailPass;
 use book::{Desk, Seen};
-use mailboxes::{MailPass, Mailbox, Office};
 use mw_types::NoMemory;
 use node::{Message, Node};
 use run_history::Case;

@@ -8,10 +8,12 @@ ghost use Rattle.workers.specs.Passing.{ArePasses};
 ghost use Rattle.workers.specs.Slices.{HasInjected, HasWorked, IsSliceFault, KeepsLeases};
 
 use crate::learning::learn;
+use crate::mailbox::Mailbox;
+use crate::office::Office;
 use crate::orders::Orders;
+use crate::passes::MailPass;
 use crate::turns::within;
 use computations::Computation;
-use mailboxes::{MailPass, Mailbox, Office};
 use mw_ports::{Gate, Point};
 use node::{Node, NodeFault};
 use row_keeper::Keeper;

@@ -12,10 +12,12 @@ ghost use Rattle.workers.specs.Slices.{IsSliceFault};
 
 use crate::calls::Commit;
 use crate::counts::intervals_in;
+use crate::mailbox::Mailbox;
+use crate::office::Office;
+use crate::passes::MailPass;
 use crate::tries::until_free;
 use book::{Desk, Seen};
 use computations::Computation;
-use mailboxes::{MailPass, Mailbox, Office};
 use mw_ports::{Gate, Point};
 use node::{Message, Node, NodeFault, Outcome};
 use run_history::Case;

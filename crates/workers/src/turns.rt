@@ -9,14 +9,16 @@ ghost use Rattle.workers.specs.Serving.{HasServed};
 ghost use Rattle.workers.specs.Slices.{HasInjected, IsSliceFault};
 
 use crate::calls::Commit;
+use crate::mailbox::Mailbox;
+use crate::office::Office;
 use crate::orders::Orders;
+use crate::passes::MailPass;
 use crate::posting::send;
 use crate::steps::{fire_all, inject_all, purge_all, report_all};
 use crate::taking::take_all;
 use crate::tries::until_free;
 use book::{Desk, Seen};
 use computations::Computation;
-use mailboxes::{MailPass, Mailbox, Office};
 use mw_ports::Gate;
 use node::{Node, NodeFault};
 use run_history::Case;

@@ -15,8 +15,8 @@ use Rattle.node.specs.Workers.{NodeView, sending_of, with_written, worker_at}
 use Rattle.node.specs.declared.outcome.NodeFault.{NodeFault}
 use Rattle.node.specs.declared.outcome.Outcome.{Outcome}
 use Rattle.node.specs.declared.outcome.Outcome.TheVariants as outcomes
-use Rattle.scripts.specs.Worlds.{World}
-use Rattle.scripts.specs.declared.step.Step.TheVariants as steps
+use Rattle.world.specs.Worlds.{World}
+use Rattle.world.specs.declared.step.Step.TheVariants as steps
 use Rattle.world.specs.Standing.{FitsOwn}
 use Rattle.world.specs.WorkerCalls.{ActsOn, IsWorldAt}
 use Rattle.world.proofs.deeds.Acting.{IsActing}

@@ -25,13 +25,13 @@ use Rattle.node.specs.declared.outcome.Outcome.TheVariants as outcomes
 use Rattle.outbox.specs.declared.outgoing.Outgoing.{Outgoing}
 use Rattle.outbox.specs.declared.outgoing.Outgoing.TheVariants as outgoing
 use Rattle.node.proofs.FitLaws.{held-interval}
-use Rattle.scripts.specs.Acts.{must_wait}
-use Rattle.scripts.specs.Worlds.{World, lease_of, lease_on, row_of_message, worker_of}
-use Rattle.scripts.specs.declared.step.Step.{Step}
-use Rattle.scripts.specs.declared.step.Step.TheVariants as steps
-use Rattle.drains.proofs.CallLaws.{forget-own, settling-own}
-use Rattle.drains.proofs.InjectLaws.{line-own}
-use Rattle.drains.proofs.TurnLaws.{IsOwnRequest, lease-held, moved-before}
+use Rattle.world.specs.Acts.{must_wait}
+use Rattle.world.specs.Worlds.{World, lease_of, lease_on, row_of_message, worker_of}
+use Rattle.world.specs.declared.step.Step.{Step}
+use Rattle.world.specs.declared.step.Step.TheVariants as steps
+use Rattle.world.proofs.CallLaws.{forget-own, settling-own}
+use Rattle.world.proofs.InjectLaws.{line-own}
+use Rattle.world.proofs.TurnLaws.{IsOwnRequest, lease-held, moved-before}
 use Rattle.world.specs.Standing.{FitsOwn}
 use Rattle.world.specs.Stepping.{IsCausedBy, NamesNone, worker_of_step}
 use Rattle.world.specs.WorkerCalls.{IsAlone, answered_in_place}

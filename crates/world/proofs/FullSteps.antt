@@ -31,11 +31,11 @@ use Rattle.node.specs.declared.outcome.NodeFault.TheVariants as faults
 use Rattle.node.specs.declared.outcome.Outcome.{Outcome}
 use Rattle.outbox.specs.declared.outgoing.Outgoing.{Outgoing}
 use Rattle.outbox.specs.declared.outgoing.Outgoing.TheVariants as outgoing
-use Rattle.scripts.specs.Acts.{Acted, Deed, done, fire, inject, purge, without_message, write, writes}
-use Rattle.scripts.specs.Worlds.{World, worker_of}
-use Rattle.scripts.specs.declared.step.Step.{Step}
-use Rattle.scripts.specs.declared.step.Step.TheVariants as steps
-use Rattle.scripts.proofs.OwnerLaws.{done-current}
+use Rattle.world.specs.Acts.{Acted, Deed, done, fire, inject, purge, without_message, write, writes}
+use Rattle.world.specs.Worlds.{World, worker_of}
+use Rattle.world.specs.declared.step.Step.{Step}
+use Rattle.world.specs.declared.step.Step.TheVariants as steps
+use Rattle.world.proofs.OwnerLaws.{done-current}
 use Rattle.world.specs.Standing.{FitsOwn, IsWorld}
 use Rattle.world.specs.Stepping.{AppendsOne, WouldAppend}
 use Rattle.world.specs.WorkerCalls.{IsFullOn, IsFullStep, IsFullTaking, answered_in_place}

@@ -8,12 +8,12 @@ use Rattle.run_history.specs.Cases.{CaseShape}
 use Rattle.run_history.specs.Fences.{Begins}
 use Rattle.run_history.proofs.Beginnings.{Begins-itself, Begins-length, Begins-trans}
 use Rattle.node.specs.declared.outcome.Outcome.{Outcome}
-use Rattle.scripts.specs.Acts.{Acted, world_after, world_then}
-use Rattle.scripts.specs.Keeping.{AppendsAtMostOne}
-use Rattle.scripts.specs.Worlds.{World}
-use Rattle.scripts.specs.declared.step.Step.{Step}
-use Rattle.scripts.specs.declared.step.Step.TheVariants as steps
-use Rattle.scripts.proofs.Steps.{script-keeps}
+use Rattle.world.specs.Acts.{Acted, world_after, world_then}
+use Rattle.world.specs.Keeping.{AppendsAtMostOne}
+use Rattle.world.specs.Worlds.{World}
+use Rattle.world.specs.declared.step.Step.{Step}
+use Rattle.world.specs.declared.step.Step.TheVariants as steps
+use Rattle.world.proofs.Steps.{script-keeps}
 use Rattle.world.specs.ScriptRuns.{IsRunning}
 use Rattle.world.specs.Stepping.{HasActed, HasFaulted, WouldAppend}
 use Rattle.world.specs.WorldStates.{WorldState, world_of}

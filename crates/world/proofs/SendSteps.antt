@@ -15,15 +15,15 @@ use Rattle.node.specs.declared.message.Message.{Message}
 use Rattle.node.specs.declared.outcome.Outcome.TheVariants as outcomes
 use Rattle.outbox.specs.declared.outgoing.Outgoing.{Outgoing}
 use Rattle.node.proofs.FitLaws.{grown_looked, looked-moved, looked_not, more-looked}
-use Rattle.scripts.specs.Acts.{done, has_numbers, nothing, send_all}
-use Rattle.scripts.specs.Worlds.{World, worker_of}
+use Rattle.world.specs.Acts.{done, has_numbers, nothing, send_all}
+use Rattle.world.specs.Worlds.{World, worker_of}
 use Rattle.world.specs.Standing.{FitsOwn, IsFlying}
 use Rattle.world.specs.WorkerCalls.{HasCalled, IsSending, IsWorldAt, SendsOn, world_with}
 use Rattle.world.specs.WorldStates.{flight_of}
 use Rattle.world.proofs.FlightLaws.{noteless}
 use Rattle.world.proofs.StandLaws.{flying-more}
 use Rattle.world.proofs.TakeSteps.{stays-done}
-use Rattle.drains.proofs.TurnLaws.{stepped-looked}
+use Rattle.world.proofs.TurnLaws.{stepped-looked}
 use Rattle.world.proofs.WorkerLaws.{leases-kept}
 
 -- ---- how far it has come

@@ -22,13 +22,13 @@ use Rattle.node.specs.Workers.{NodeView, Worker, idle, leases_of, worker_at}
 use Rattle.node.specs.declared.message.Message.{Message}
 use Rattle.outbox.specs.declared.outgoing.Outgoing.{Outgoing}
 use Rattle.node.proofs.FitLaws.{Fits-beside, HasMore, outgoing-more}
-use Rattle.scripts.specs.Keeping.{AreClaimed}
-use Rattle.scripts.proofs.Places.{at-set}
+use Rattle.world.specs.Keeping.{AreClaimed}
+use Rattle.world.proofs.Places.{at-set}
 use Rattle.world.specs.Standing.{FitsOwn, IsFlying, IsWorld}
-use Rattle.drains.specs.Turns.{HasStepped, with_own}
+use Rattle.world.specs.Turns.{HasStepped, with_own}
 use Rattle.world.specs.WorkerCalls.{HasCalled}
 use Rattle.world.specs.WorldStates.{WorldState, flight_of, world_of}
-use Rattle.drains.proofs.TurnLaws.{lease-held, moved-before, stepped-by}
+use Rattle.world.proofs.TurnLaws.{lease-held, moved-before, stepped-by}
 
 -- ---- how the history goes on
 

@@ -9,12 +9,12 @@ use Rattle.topology.specs.Shapes.{Shape}
 use Rattle.run_history.specs.Cases.{CaseShape}
 use Rattle.book.specs.Books.{core_of}
 use Rattle.book.specs.Lawful.{HoldsRowsOf, IsLawful}
-use Rattle.scripts.specs.Keeping.{AppendsAtMostOne}
-use Rattle.scripts.specs.Steps.{IsStep}
-use Rattle.scripts.specs.declared.step.Step.{Step}
-use Rattle.scripts.specs.declared.step.Step.TheVariants as steps
+use Rattle.world.specs.Keeping.{AppendsAtMostOne}
+use Rattle.world.specs.Steps.{IsStep}
+use Rattle.world.specs.declared.step.Step.{Step}
+use Rattle.world.specs.declared.step.Step.TheVariants as steps
 use Rattle.world.specs.Stepping.{HasFaulted}
-use Rattle.drains.specs.Turns.{with_own}
+use Rattle.world.specs.Turns.{with_own}
 use Rattle.world.specs.WorkerCalls.{HasGoneOn, IsAlone}
 use Rattle.world.specs.WorldStates.{WorldState, world_of}
 use Rattle.world.proofs.RunLaws.{faulted-history}

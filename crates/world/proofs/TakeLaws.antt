@@ -23,12 +23,12 @@ use Rattle.node.specs.declared.outcome.Outcome.{Outcome}
 use Rattle.node.specs.declared.outcome.Outcome.TheVariants as outcomes
 use Rattle.outbox.specs.declared.outgoing.Outgoing.{Outgoing}
 use Rattle.outbox.specs.declared.outgoing.Outgoing.TheVariants as outgoing
-use Rattle.scripts.specs.Acts.{must_wait}
-use Rattle.scripts.specs.Worlds.{lease_of, lease_on, row_of_message}
+use Rattle.world.specs.Acts.{must_wait}
+use Rattle.world.specs.Worlds.{lease_of, lease_on, row_of_message}
 use Rattle.world.specs.Standing.{FitsOwn}
 use Rattle.world.specs.WorkerCalls.{IsReady, TakesOn, answered_in_place}
 use Rattle.world.proofs.ActsOnLaws.{acting}
-use Rattle.drains.proofs.TurnLaws.{free-of}
+use Rattle.world.proofs.TurnLaws.{free-of}
 use Rattle.world.proofs.deeds.Takes.{ack-acts, prepare-acts}
 
 -- ---- what is prepared

@@ -24,10 +24,10 @@ use Rattle.node.specs.declared.outcome.Outcome.{Outcome}
 use Rattle.node.specs.declared.outcome.Outcome.TheVariants as outcomes
 use Rattle.outbox.specs.declared.outgoing.Outgoing.{Outgoing}
 use Rattle.outbox.specs.declared.outgoing.Outgoing.TheVariants as outgoing
-use Rattle.scripts.proofs.Leases.{lost-had}
-use Rattle.drains.specs.Turns.{HasFailed}
+use Rattle.world.proofs.Leases.{lost-had}
+use Rattle.world.specs.Turns.{HasFailed}
 use Rattle.world.specs.WorkerCalls.{HasCalled, HasLeases, HasRested}
-use Rattle.drains.proofs.TurnLaws.{failed-memory, stepped-looked}
+use Rattle.world.proofs.TurnLaws.{failed-memory, stepped-looked}
 
 -- ---- what is said of a result
 

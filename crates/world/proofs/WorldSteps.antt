@@ -17,8 +17,8 @@ use Rattle.node.specs.Workers.{NodeView, Worker, worker_at}
 use Rattle.node.specs.Works.{IsWorkOf}
 use Rattle.node.specs.declared.message.Message.{Message}
 use Rattle.node.specs.declared.outcome.Outcome.{Outcome}
-use Rattle.scripts.specs.Worlds.{World}
-use Rattle.scripts.specs.declared.step.Step.{Step}
+use Rattle.world.specs.Worlds.{World}
+use Rattle.world.specs.declared.step.Step.{Step}
 use Rattle.world.specs.Standing.{FitsOwn, IsWorld}
 use Rattle.world.specs.Stepping.{HasActed}
 use Rattle.world.specs.WorkerCalls.{ActsOn, HasCalled, HasGoneOn, HasRested, IsWorldAt, world_with}

@@ -1,3 +1,16 @@
+pub mod Drains
+pub mod ReportRounds
+pub mod DrainTurns
+pub mod Turns
+pub mod Standings
+pub mod Schedules
+pub mod ScheduleExamples
+pub mod Steps
+pub mod Worlds
+pub mod Acts
+pub mod Keeping
+pub mod Copies
+pub mod Scripts
 pub mod WorldStates
 pub mod Stepping
 pub mod Replays

@@ -6,7 +6,7 @@ use Rattle.node.specs.Fits.{Fits}
 use Rattle.outbox.specs.Messages.{IsOutgoing}
 use Rattle.node.specs.Workers.{NodeView}
 use Rattle.outbox.specs.declared.outgoing.Outgoing.{Outgoing}
-use Rattle.scripts.specs.Keeping.{AreClaimed}
+use Rattle.world.specs.Keeping.{AreClaimed}
 use Rattle.world.specs.WorldStates.{WorldState, flight_of, world_of}
 
 -- a worker fits the desk over its book

@@ -4,7 +4,7 @@ use Rattle.run_history.specs.Cases.{CaseShape}
 use Rattle.book.specs.Desks.{DeskView}
 use Rattle.node.specs.Fits.{Fits}
 use Rattle.node.specs.Workers.{NodeView, idle, worker_at}
-use Rattle.drains.specs.DrainTurns.{DrainView, IsUnderWay}
+use Rattle.world.specs.DrainTurns.{DrainView, IsUnderWay}
 use Rattle.world.specs.WorldStates.{WorldState}
 
 -- so many new workers, by their numbers

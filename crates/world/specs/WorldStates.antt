@@ -7,7 +7,7 @@ use Rattle.node.specs.Received.{outgoing_of}
 use Rattle.node.specs.Workers.{NodeView, worker_at}
 use Rattle.node.specs.declared.message.Message.{Message}
 use Rattle.outbox.specs.declared.outgoing.Outgoing.{Outgoing}
-use Rattle.scripts.specs.Worlds.{World}
+use Rattle.world.specs.Worlds.{World}
 
 -- the book, the workers by their numbers, and a place for each message that was sent or copied, by its
 -- number: the message with its note while it is in flight, and nothing once it is gone

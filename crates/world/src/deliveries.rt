@@ -6,10 +6,10 @@ ghost use Rattle.node.specs.Received.{outgoing_of};
 ghost use Rattle.node.specs.Workers.{worker_at};
 ghost use Rattle.node.specs.Works.{IsWorkOf};
 ghost use Rattle.node.specs.declared.message.Message.TheVariants as messages;
-ghost use Rattle.scripts.specs.Acts.{must_wait};
-ghost use Rattle.scripts.specs.Worlds.{row_of_message};
+ghost use Rattle.world.specs.Acts.{must_wait};
+ghost use Rattle.world.specs.Worlds.{row_of_message};
 ghost use Rattle.world.specs.Standing.{FitsOwn};
-ghost use Rattle.drains.specs.Turns.{HasFailed};
+ghost use Rattle.world.specs.Turns.{HasFailed};
 ghost use Rattle.world.specs.Stepping.{IsCausedBy};
 ghost use Rattle.world.specs.WorkerCalls.{HasCalled, HasRested, IsFullTaking, IsReady, TakesOn, answered_in_place};
 

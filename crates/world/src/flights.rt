@@ -5,18 +5,18 @@ ghost use Rattle.std.specs.Vec.{vec_capacity};
 ghost use Rattle.book.specs.Books.{BookView};
 ghost use Rattle.node.specs.Received.{outgoing_of};
 ghost use Rattle.node.specs.Workers.{worker_at};
-ghost use Rattle.scripts.specs.Acts.{without_message};
-ghost use Rattle.scripts.specs.Worlds.{in_flight};
+ghost use Rattle.world.specs.Acts.{without_message};
+ghost use Rattle.world.specs.Worlds.{in_flight};
 ghost use Rattle.world.specs.Standing.{FitsOwn, IsFlying};
 ghost use Rattle.world.specs.Stepping.{NamesNone};
 ghost use Rattle.world.specs.WorkerCalls.{FliesOn, HasCalled, IsSending, SendsOn};
 ghost use Rattle.world.specs.WorldStates.{flight_of};
 
+use crate::step::Step;
 use book::{Book, NoNote, OwnDesk};
 use mw_types::{Duplicate, NoMemory};
 use node::{Message, Node, NodeFault, Outcome, Parcel, Receipt};
 use row_keeper::Keeper;
-use scripts::Step;
 use std::alloc::Global;
 
 // A place for each message that was sent or copied, by its number: nothing once the message is gone.

@@ -6,15 +6,15 @@ ghost use Rattle.run_history.specs.Fences.{Begins};
 ghost use Rattle.book.specs.DeskReasons.{IsDamageOf};
 ghost use Rattle.book.specs.OwnDesks.{own_view};
 ghost use Rattle.node.specs.Answers.{refusal_of};
-ghost use Rattle.scripts.specs.Acts.{world_after};
-ghost use Rattle.scripts.specs.Steps.{IsStep};
+ghost use Rattle.world.specs.Acts.{world_after};
+ghost use Rattle.world.specs.Steps.{IsStep};
 ghost use Rattle.world.specs.WorldStates.{world_of};
 
+use crate::step::Step;
 use crate::world::World;
 use computations::Computation;
 use node::NodeFault;
 use row_keeper::Keeper;
-use scripts::Step;
 use std::alloc::Global;
 
 /// Does the steps of a script, one after another, until one ends with a fault. What they answer is

@@ -5,15 +5,15 @@ ghost use Rattle.outbox.specs.Messages.{IsComputation};
 ghost use Rattle.node.specs.Workers.{worker_at};
 ghost use Rattle.node.specs.Works.{IsWorkOf};
 ghost use Rattle.world.specs.Standing.{FitsOwn};
-ghost use Rattle.drains.specs.Turns.{HasFailed};
+ghost use Rattle.world.specs.Turns.{HasFailed};
 ghost use Rattle.world.specs.Stepping.{IsCausedBy};
 ghost use Rattle.world.specs.WorkerCalls.{ActsOn, HasCalled, HasRested, IsFullOn};
 
+use crate::step::Step;
 use book::{Book, Desk, NoNote, OwnDesk};
 use computations::Computation;
 use node::{Node, NodeFault, Outcome};
 use row_keeper::Keeper;
-use scripts::Step;
 use std::alloc::Global;
 
 // A worker claims an interval.

@@ -5,7 +5,7 @@ ghost use Rattle.run_history.specs.Cases.{intervals_of};
 ghost use Rattle.book.specs.Books.{core_of};
 ghost use Rattle.book.specs.Lawful.{IsLawful};
 ghost use Rattle.node.specs.Works.{IsWorkOf};
-ghost use Rattle.scripts.specs.Worlds.{empty_world, world_on};
+ghost use Rattle.world.specs.Worlds.{empty_world, world_on};
 ghost use Rattle.world.specs.WorldDrains.{AreNew};
 ghost use Rattle.world.specs.WorldStates.{world_of};
 

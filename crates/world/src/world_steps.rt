@@ -7,23 +7,23 @@ ghost use Rattle.book.specs.OwnDesks.{own_view};
 ghost use Rattle.node.specs.Answers.{refusal_of};
 ghost use Rattle.node.specs.Workers.{worker_at};
 ghost use Rattle.node.specs.Works.{IsWorkOf};
-ghost use Rattle.scripts.specs.Keeping.{AppendsAtMostOne};
-ghost use Rattle.scripts.specs.Steps.{IsStep};
+ghost use Rattle.world.specs.Keeping.{AppendsAtMostOne};
+ghost use Rattle.world.specs.Steps.{IsStep};
 ghost use Rattle.world.specs.Standing.{FitsOwn};
 ghost use Rattle.world.specs.Stepping.{HasActed, HasCauseOf, HasFaulted, IsCausedBy, WouldAppend};
-ghost use Rattle.drains.specs.Turns.{HasFailed};
+ghost use Rattle.world.specs.Turns.{HasFailed};
 ghost use Rattle.world.specs.WorkerCalls.{ActsOn, HasCalled, HasGoneOn, HasRested, IsAlone, IsFullOn, IsFullStep, IsOfMessages};
 ghost use Rattle.world.specs.WorldStates.{world_of};
 
 use crate::deliveries::{answered_in_place, receive};
 use crate::flights::{find, lose, repeat, send, take_out};
+use crate::step::Step;
 use crate::worker_calls::{claim, fire, inject, purge, report, resend, write};
 use crate::world::World;
 use book::{Book, NoNote};
 use computations::Computation;
 use node::{Node, NodeFault, Outcome};
 use row_keeper::Keeper;
-use scripts::Step;
 use std::alloc::Global;
 
 impl<'a, K: Keeper, C: Computation + Drop> World<'a, K, C> {

@@ -16,8 +16,8 @@ use Rattle.node.specs.Fits.{Fits, IsPrepared, IsWork}
 use Rattle.node.specs.Workers.{NodeView, WorkView, Worker, sending_in, sending_of, worker_at}
 use Rattle.node.specs.declared.outcome.Outcome.{Outcome}
 use Rattle.node.specs.declared.outcome.Outcome.TheVariants as outcomes
-use Rattle.scripts.specs.Acts.{Deed, done, nothing, writes}
-use Rattle.scripts.specs.Worlds.{World, worker_of}
+use Rattle.world.specs.Acts.{Deed, done, nothing, writes}
+use Rattle.world.specs.Worlds.{World, worker_of}
 use Rattle.world.proofs.deeds.Acting.{IsActing, acting-worker}
 use Rattle.world.proofs.deeds.Left.{IsAlone, IsOnRow, IsWorldOf, idle-acts, left_world, write-acts}
 

@@ -24,10 +24,10 @@ use Rattle.node.specs.Answers.{AnswersFire, AnswersSome, IsLeastKnown}
 use Rattle.node.specs.Asking.{IsTimerHeld, MayAskFire, Request}
 use Rattle.node.specs.Workers.{NodeView, Sending, Worker, sending_of, where_passes}
 use Rattle.node.specs.declared.outcome.Outcome.{Outcome}
-use Rattle.scripts.specs.Acts.{Deed, fire, fire_due, fire_effects, fire_under, least_timer, nothing, timers_known, writes}
-use Rattle.scripts.specs.Worlds.{World, lease_on, worker_of}
-use Rattle.scripts.specs.declared.step.Step.TheVariants as steps
-use Rattle.drains.proofs.Firsts.{tied_both_ways}
+use Rattle.world.specs.Acts.{Deed, fire, fire_due, fire_effects, fire_under, least_timer, nothing, timers_known, writes}
+use Rattle.world.specs.Worlds.{World, lease_on, worker_of}
+use Rattle.world.specs.declared.step.Step.TheVariants as steps
+use Rattle.world.proofs.Firsts.{tied_both_ways}
 use Rattle.world.proofs.deeds.Acting.{Acts, IsActing, acting-worker}
 use Rattle.world.proofs.deeds.Held.{lease_held, lease_on-held, row-held}
 use Rattle.world.proofs.deeds.Left.{IsOnRow, acting-alone, acting-of}

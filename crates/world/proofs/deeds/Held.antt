@@ -13,7 +13,7 @@ use Rattle.book.specs.Desks.{DeskView}
 use Rattle.book.specs.OwnDesks.{own_view}
 use Rattle.holdings.specs.Holding.{AreAllHeld, HeldView, IsHeld, held_at, held_on, row_held}
 use Rattle.node.specs.Workers.{NodeView, leases_of}
-use Rattle.scripts.specs.Worlds.{World, lease_of, lease_on, row_known, worker_of}
+use Rattle.world.specs.Worlds.{World, lease_of, lease_on, row_known, worker_of}
 use Rattle.world.proofs.deeds.Acting.{IsActing, acting-worker, tells}
 
 -- the lease of what is held

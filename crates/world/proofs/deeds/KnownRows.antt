@@ -27,7 +27,7 @@ use Rattle.history_laws.proofs.RowSteps.{same_row}
 use Rattle.book.specs.Books.{BookView, LeaseView}
 use Rattle.holdings.specs.Holding.{HeldView, held_at, held_on, row_held}
 use Rattle.node.specs.Workers.{NodeView}
-use Rattle.scripts.specs.Worlds.{World, lease_of, rows_known, rows_of_worker, run_known, worker_of}
+use Rattle.world.specs.Worlds.{World, lease_of, rows_known, rows_of_worker, run_known, worker_of}
 use Rattle.world.proofs.deeds.Acting.{IsActing}
 use Rattle.world.proofs.deeds.Ascending.{sorted-passing}
 use Rattle.world.proofs.deeds.Held.{held-lies, lease_held, lease_of-held, row-held}

@@ -19,9 +19,9 @@ use Rattle.node.specs.Workers.{NodeView, Worker, idle, sends, with_lease, with_o
 use Rattle.node.specs.declared.outcome.Outcome.{Outcome}
 use Rattle.node.specs.declared.outcome.Outcome.TheVariants as outcomes
 use Rattle.outbox.specs.declared.outgoing.Outgoing.{Outgoing}
-use Rattle.scripts.specs.Acts.{Acted, Deed, becomes, changed_by, done, lost, nothing, stays, with_made, writes}
-use Rattle.scripts.specs.Worlds.{World, worker_of}
-use Rattle.scripts.proofs.OwnerLaws.{done-current, done-overtaken}
+use Rattle.world.specs.Acts.{Acted, Deed, becomes, changed_by, done, lost, nothing, stays, with_made, writes}
+use Rattle.world.specs.Worlds.{World, worker_of}
+use Rattle.world.proofs.OwnerLaws.{done-current, done-overtaken}
 use Rattle.world.proofs.deeds.Acting.{IsActing, acting-worker, tells}
 
 -- ---- a desk that is alone, and the world that it knows

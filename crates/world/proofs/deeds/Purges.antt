@@ -25,9 +25,9 @@ use Rattle.node.specs.Answers.{AnswersPurge, AnswersSome, IsFloorKnown}
 use Rattle.node.specs.Asking.{HasToForget, MayAskPurge, Request, forgetting}
 use Rattle.node.specs.Workers.{NodeView, Sending, Worker, sending_of}
 use Rattle.node.specs.declared.outcome.Outcome.{Outcome}
-use Rattle.scripts.specs.Acts.{Deed, may_forget, nothing, purge, purge_first, purge_row, writes}
-use Rattle.scripts.specs.Worlds.{World, rows_known, worker_of}
-use Rattle.scripts.specs.declared.step.Step.TheVariants as steps
+use Rattle.world.specs.Acts.{Deed, may_forget, nothing, purge, purge_first, purge_row, writes}
+use Rattle.world.specs.Worlds.{World, rows_known, worker_of}
+use Rattle.world.specs.declared.step.Step.TheVariants as steps
 use Rattle.world.proofs.deeds.Acting.{Acts, IsActing, acting-worker}
 use Rattle.world.proofs.deeds.Held.{lease_held, lease_of-held}
 use Rattle.world.proofs.deeds.KnownRows.{in-known, known-in, known-sorted, row-there, there-unless-fresh}

@@ -21,10 +21,10 @@ use Rattle.node.specs.Answers.{AnswersReport, AnswersReportOf, IsMarked}
 use Rattle.node.specs.Workers.{NodeView}
 use Rattle.node.specs.declared.outcome.Outcome.{Outcome}
 use Rattle.node.specs.declared.outcome.Outcome.TheVariants as outcomes
-use Rattle.scripts.specs.Acts.{changed_by, done, nothing, report, report_own, report_under}
-use Rattle.scripts.specs.Worlds.{World, run_known}
-use Rattle.scripts.specs.declared.step.Step.TheVariants as steps
-use Rattle.scripts.proofs.OwnerLaws.{done-current}
+use Rattle.world.specs.Acts.{changed_by, done, nothing, report, report_own, report_under}
+use Rattle.world.specs.Worlds.{World, run_known}
+use Rattle.world.specs.declared.step.Step.TheVariants as steps
+use Rattle.world.proofs.OwnerLaws.{done-current}
 use Rattle.world.proofs.deeds.Acting.{Acts, IsActing, acting-worker, tells}
 use Rattle.world.proofs.deeds.Held.{lease_held, lease_of-held}
 use Rattle.world.proofs.deeds.Left.{acted-same, acting-alone, acting-of, idle-acts, left_world, moved-alone, not-turned, stale-acts, workers-same}

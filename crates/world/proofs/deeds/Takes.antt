@@ -21,8 +21,8 @@ use Rattle.node.specs.declared.outcome.Outcome.{Outcome}
 use Rattle.node.specs.declared.outcome.Outcome.TheVariants as outcomes
 use Rattle.outbox.specs.declared.outgoing.Outgoing.{Outgoing}
 use Rattle.outbox.specs.declared.outgoing.Outgoing.TheVariants as outgoing
-use Rattle.scripts.specs.Acts.{Deed, done, nothing, stays, take, take_again, take_message, take_new, take_out, without_message, writes}
-use Rattle.scripts.specs.Worlds.{World, in_flight, lease_on, row_of_message, worker_of}
+use Rattle.world.specs.Acts.{Deed, done, nothing, stays, take, take_again, take_message, take_new, take_out, without_message, writes}
+use Rattle.world.specs.Worlds.{World, in_flight, lease_on, row_of_message, worker_of}
 use Rattle.world.proofs.deeds.Acting.{ActsWithout, IsActing, acting-worker}
 use Rattle.world.proofs.deeds.Held.{lease_held, lease_on-held, row-held}
 use Rattle.world.proofs.deeds.Left.{IsOnRow, acting-alone, acting-of, asked-acts, becomes-acts, deed_asked, left_world, moved-alone, with_flight}

@@ -24,8 +24,8 @@ use Rattle.holdings.specs.Holding.{HeldView, held_on, row_held}
 use Rattle.holdings.specs.Timers.{due_cmp}
 use Rattle.node.specs.Asking.{IsTimerHeld}
 use Rattle.node.specs.Workers.{NodeView}
-use Rattle.scripts.specs.Acts.{timers_in, timers_known}
-use Rattle.scripts.specs.Worlds.{World, rows_of_worker, run_known, worker_of}
+use Rattle.world.specs.Acts.{timers_in, timers_known}
+use Rattle.world.specs.Worlds.{World, rows_of_worker, run_known, worker_of}
 use Rattle.world.proofs.deeds.Acting.{IsActing}
 use Rattle.world.proofs.deeds.KnownRows.{IsRowThere, knows-worker, row-there, there-unless-fresh, worker-knows}
 use Rattle.world.proofs.deeds.Members.{IsIn, each-in, filter-in, flat-in, in-filter, in-flat, in-map, map-in}

@@ -19,9 +19,9 @@ use Rattle.node.specs.Asking.{handled_as, proposed, work_asked}
 use Rattle.node.specs.Fits.{IsHandled, IsPrepared, IsWork}
 use Rattle.node.specs.Workers.{NodeView, Sending, WorkView, Worker, sending_in, sending_of, with_written, worker_at}
 use Rattle.node.specs.declared.outcome.Outcome.{Outcome}
-use Rattle.scripts.specs.Acts.{Deed, done, nothing, write, writes}
-use Rattle.scripts.specs.Worlds.{World, lease_on, row_known}
-use Rattle.scripts.specs.declared.step.Step.TheVariants as steps
+use Rattle.world.specs.Acts.{Deed, done, nothing, write, writes}
+use Rattle.world.specs.Worlds.{World, lease_on, row_known}
+use Rattle.world.specs.declared.step.Step.TheVariants as steps
 use Rattle.world.proofs.deeds.Acting.{Acts, IsActing, acting-worker}
 use Rattle.world.proofs.deeds.Held.{lease_held, lease_on-held, row-held}
 use Rattle.world.proofs.deeds.Left.{IsOnRow, acting-alone, acting-of, asked-kept, deed_asked}

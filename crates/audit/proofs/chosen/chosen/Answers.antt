@@ -1,5 +1,5 @@
 use Rattle.std.proofs.Common.{subst}
-use Rattle.standing.specs.Choices.{IsChosen}
+use Rattle.audit.specs.Choices.{IsChosen}
 use Rattle.audit.proofs.Choosing.{none-chosen}
 use Rattle.audit.proofs.chosen.chosen.Goals as goal
 

@@ -1,9 +1,9 @@
 //! The worked examples as tables of choices.
 use crate::tests::text_cases::{COUNT, RECORDS, case};
 use crate::tests::{made, must};
+use audit::Standing;
 use mw_types::{Entry, Key, RecordId, RowName};
 use run_history::Case;
-use standing::Standing;
 use std::alloc::Global;
 use std::process::Abort;
 use trace_lines::Choice;

@@ -7,12 +7,12 @@ ghost use Rattle.node.specs.Received.{outgoing_of};
 use super::turns_of_work::mailbox;
 use crate::tests::must;
 use book::NoNote;
-use mailboxes::{MailPass, Mailbox, Office};
 use mw_types::{Key, RecordId, RowName};
 use node::{Message, Receipt};
 use std::alloc::Global;
 use std::process::Abort;
 use std::sync::Wait;
+use workers::{MailPass, Mailbox, Office};
 
 // The office of an injector and a count, whose messages have no note.
 struct Example;

@@ -14,7 +14,6 @@ use super::plays::{Kept, Play, Row, Table, Two, play_all};
 use crate::tests::entries::Told;
 use crate::tests::made;
 use book::Seen;
-use mailboxes::{MailPass, Mailbox, Office};
 use mw_ports::OpenGate;
 use mw_types::END;
 use node::Node;
@@ -23,7 +22,7 @@ use shared_book::{Note, Seat, Shared, SharedDesk};
 use std::alloc::Global;
 use std::process::Abort;
 use std::sync::Wait;
-use workers::{Orders, slice};
+use workers::{MailPass, Mailbox, Office, Orders, slice};
 
 // What each worker does first.
 const SOURCE: Table<'static> = &[(Act::ClaimSource, Answer::Claimed(0))];

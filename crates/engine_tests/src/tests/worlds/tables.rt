@@ -4,7 +4,7 @@
 //! stand for a step: `drain`, after which the world is drained, `count`, beside which stands how many
 //! entries there are, and `last`, beside which stands the last of them.
 ghost use Rattle.std.specs.Prelude.{◌≤◌, ◌^◌, All};
-ghost use Rattle.scripts.specs.Steps.{IsStep};
+ghost use Rattle.world.specs.Steps.{IsStep};
 
 use super::fixtures::{MOST, world};
 use crate::tests::keepers::{blind, in_memory};
@@ -14,10 +14,9 @@ use computations::Kinds;
 use node::{NodeFault, Outcome};
 use row_keeper::Keeper;
 use run_history::{Case, EntryRef};
-use schedules::{Schedule, read_schedule};
 use std::alloc::Global;
 use std::process::Abort;
-use world::{Step, World};
+use world::{Schedule, Step, World, read_schedule};
 
 // The schedule of a text.
 pub(crate) fn schedule(rt: &impl Abort, alloc: Global, case: &Case, text: &str) -> Schedule

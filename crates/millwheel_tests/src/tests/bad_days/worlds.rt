@@ -3,7 +3,7 @@ ghost use Rattle.std.specs.Prelude.{◌≡◌, All, IfOk, length};
 ghost use Rattle.topology.specs.Shapes.{injectors_of};
 ghost use Rattle.node.specs.Works.{IsWorkOf};
 ghost use Rattle.computations.specs.Parts.{HasState, part_record, part_timer};
-ghost use Rattle.scripts.specs.Steps.{IsStep};
+ghost use Rattle.world.specs.Steps.{IsStep};
 
 use super::overtaken::sides;
 use crate::tests::events::EVENTS;
@@ -16,12 +16,10 @@ use mw_types::NoMemory;
 use node::{NodeFault, Outcome};
 use row_keeper::{Keeper, MemKeeper};
 use run_history::{Case, EntryRef, History};
-use schedules::{Schedule, read_schedule};
-use scripts::Step;
 use std::alloc::Global;
 use std::process::Abort;
 use topology::{Topology, read};
-use world::World;
+use world::{Schedule, Step, World, read_schedule};
 
 // The topology of the first example, which has one injector.
 fn topology(rt: &impl Abort, alloc: Global) -> Topology

@@ -1,6 +1,6 @@
 use Rattle.std.proofs.Common.{◌∙◌, ◌==◌, length, refl, sym, subst}
 use Rattle.list_lemmas.proofs.Told.{on_ok-map}
-use Rattle.drains.proofs.Results.{err-then}
+use Rattle.world.proofs.Results.{err-then}
 use Rattle.run_history.specs.Cases.{CaseShape}
 use Rattle.live_outlet.specs.Outlets.{IsPumpedFrom}
 use Rattle.task_runs.specs.Lives.{LivesOn}

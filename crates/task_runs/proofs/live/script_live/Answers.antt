@@ -1,7 +1,7 @@
 use Rattle.std.proofs.Common.{length, refl, sym, subst, rules, arith}
 use Rattle.std.specs.Prelude.{IfErr}
 use Rattle.list_lemmas.proofs.Told.{if-there}
-use Rattle.drains.proofs.Results.{err-then}
+use Rattle.world.proofs.Results.{err-then}
 use Rattle.run_history.specs.Cases.{CaseShape}
 use Rattle.live_outlet.specs.Outlets.{IsPumpedFrom}
 use Rattle.world.specs.WorldStates.{world_of}

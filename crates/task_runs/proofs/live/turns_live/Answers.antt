@@ -1,9 +1,9 @@
 use Rattle.std.proofs.Common.{◌≡◌, rules, arith, subst, sym}
 use Rattle.std.specs.Prelude.{IfErr}
-use Rattle.drains.specs.DrainTurns.{HasDrained}
-use Rattle.drains.proofs.DrainTurnLaws.{going-ended, going-first, going-on}
-use Rattle.drains.proofs.GoLaws.{gone-step}
-use Rattle.drains.proofs.Results.{err-then}
+use Rattle.world.specs.DrainTurns.{HasDrained}
+use Rattle.world.proofs.DrainTurnLaws.{going-ended, going-first, going-on}
+use Rattle.world.proofs.GoLaws.{gone-step}
+use Rattle.world.proofs.Results.{err-then}
 use Rattle.run_history.specs.Cases.{CaseShape}
 use Rattle.live_outlet.specs.Outlets.{IsPumpedFrom}
 use Rattle.task_runs.specs.declared.live.LiveFault.{LiveFault}

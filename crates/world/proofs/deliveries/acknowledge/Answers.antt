@@ -3,11 +3,11 @@ use Rattle.std.specs.Prelude.{IfErr, IfOk}
 use Rattle.node.specs.declared.outcome.Outcome.{Outcome}
 use Rattle.outbox.specs.declared.outgoing.Outgoing.TheVariants as outgoing
 use Rattle.node.specs.Asking.{ack_asked}
-use Rattle.drains.specs.Turns.{HasFailed}
+use Rattle.world.specs.Turns.{HasFailed}
 use Rattle.world.specs.WorkerCalls.{HasCalled, IsFullTaking, TakesOn}
-use Rattle.drains.proofs.Results.{ok-then}
+use Rattle.world.proofs.Results.{ok-then}
 use Rattle.world.proofs.TakeLaws.{ack-on}
-use Rattle.drains.proofs.TurnLaws.{failed-asked}
+use Rattle.world.proofs.TurnLaws.{failed-asked}
 use Rattle.world.proofs.WorkerLaws.{by-result, called-by, err-with, leases-ack, leases-same}
 use Rattle.node.specs.Workers.{worker_at}
 use Rattle.world.specs.Stepping.{IsCausedBy}

@@ -4,9 +4,9 @@ use Rattle.book.specs.OwnDesks.{own_view}
 use Rattle.node.specs.declared.outcome.Outcome.{Outcome}
 use Rattle.outbox.specs.declared.outgoing.Outgoing.TheVariants as outgoing
 use Rattle.node.proofs.FitLaws.{grown_looked}
-use Rattle.drains.specs.Turns.{HasFailed}
+use Rattle.world.specs.Turns.{HasFailed}
 use Rattle.world.specs.WorkerCalls.{HasCalled, HasRested, IsFullTaking, TakesOn}
-use Rattle.drains.proofs.Results.{err-then, ok-then}
+use Rattle.world.proofs.Results.{err-then, ok-then}
 use Rattle.world.proofs.TakeLaws.{handle-on}
 use Rattle.world.proofs.WorkerLaws.{by-result, called-by, err-left, failed-only-memory, leases-same, leases-taken, rested-by}
 use Rattle.node.specs.Workers.{worker_at}

@@ -1,13 +1,13 @@
 use Rattle.std.proofs.Common.{◌≡◌, ◌∙◌, ◌+◌, ◌^◌, true, length, ap, subst, sym, rules}
 use Rattle.std.specs.Prelude.{None, Some, All, nat_le, slice_get, unwrap_or}
 use Rattle.node.specs.declared.outcome.Outcome.TheVariants as outcomes
-use Rattle.scripts.specs.declared.step.Step.TheVariants as steps
+use Rattle.world.specs.declared.step.Step.TheVariants as steps
 use Rattle.world.specs.Standing.{IsFlying}
 use Rattle.world.specs.WorkerCalls.{FliesOn}
 use Rattle.world.specs.WorldStates.{flight_of}
 use Rattle.world.proofs.FlightLaws.{flying-put, repeat-more, repeat-not}
 use Rattle.world.proofs.WorkerLaws.{by-either, ok-with}
-use Rattle.drains.proofs.Results.{ok-then}
+use Rattle.world.proofs.Results.{ok-then}
 use Rattle.world.specs.Stepping.{NamesNone}
 use Rattle.world.proofs.flights.repeat.Goals as goal
 

@@ -4,9 +4,9 @@ use Rattle.world.proofs.WorkerLaws.{by-result, called-by, leases-claim, leases-s
 use Rattle.std.specs.Prelude.{IfErr, IfOk}
 use Rattle.node.specs.Workers.{worker_at}
 use Rattle.world.specs.Stepping.{IsCausedBy}
-use Rattle.drains.proofs.Results.{err-then, ok-then}
+use Rattle.world.proofs.Results.{err-then, ok-then}
 use Rattle.world.proofs.CauseLaws.{claim-cause}
-use Rattle.scripts.specs.declared.step.Step.TheVariants as steps
+use Rattle.world.specs.declared.step.Step.TheVariants as steps
 use Rattle.world.proofs.FullSteps.{claim-full}
 use Rattle.world.proofs.worker_calls.claim.Goals as goal
 

@@ -1,9 +1,9 @@
 use Rattle.std.proofs.Common.{refl, rules}
 use Rattle.std.specs.Prelude.{IfErr, IfOk}
-use Rattle.scripts.specs.declared.step.Step.TheVariants as steps
+use Rattle.world.specs.declared.step.Step.TheVariants as steps
 use Rattle.world.specs.WorkerCalls.{ActsOn, HasCalled, IsFullOn}
 use Rattle.world.proofs.ActsOnLaws.{inject-on}
-use Rattle.drains.proofs.Results.{ok-then}
+use Rattle.world.proofs.Results.{ok-then}
 use Rattle.world.proofs.WorkerLaws.{by-result, called-by, err-with, leases-asked, leases-same}
 use Rattle.node.specs.Asking.{line_asked}
 use Rattle.node.specs.Workers.{worker_at}

@@ -1,13 +1,13 @@
 use Rattle.std.proofs.Common.{rules}
 use Rattle.std.specs.Prelude.{IfErr, IfOk}
-use Rattle.scripts.specs.declared.step.Step.TheVariants as steps
+use Rattle.world.specs.declared.step.Step.TheVariants as steps
 use Rattle.world.specs.WorkerCalls.{ActsOn, HasCalled, IsFullOn}
 use Rattle.world.proofs.ActsOnLaws.{purge-on}
-use Rattle.drains.proofs.Results.{ok-then}
+use Rattle.world.proofs.Results.{ok-then}
 use Rattle.world.proofs.WorkerLaws.{by-result, called-by, leases-some, leases-same}
 use Rattle.node.specs.Asking.{MayAskPurge}
-use Rattle.drains.specs.Turns.{HasFailed}
-use Rattle.drains.proofs.TurnLaws.{failed-some}
+use Rattle.world.specs.Turns.{HasFailed}
+use Rattle.world.proofs.TurnLaws.{failed-some}
 use Rattle.world.proofs.WorkerLaws.{err-with}
 use Rattle.node.specs.Workers.{worker_at}
 use Rattle.world.specs.Stepping.{IsCausedBy}

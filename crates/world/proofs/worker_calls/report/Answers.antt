@@ -1,13 +1,13 @@
 use Rattle.std.proofs.Common.{refl, rules}
 use Rattle.std.specs.Prelude.{IfErr, IfOk}
-use Rattle.scripts.specs.declared.step.Step.TheVariants as steps
+use Rattle.world.specs.declared.step.Step.TheVariants as steps
 use Rattle.world.specs.WorkerCalls.{ActsOn, HasCalled, IsFullOn}
 use Rattle.world.proofs.ActsOnLaws.{report-on}
 use Rattle.world.proofs.ActsOnLaws.{ok-is, same-answer}
 use Rattle.world.proofs.WorkerLaws.{by-result, called-by, leases-report, leases-same}
 use Rattle.holdings.specs.Holding.{held_at}
-use Rattle.drains.specs.Turns.{HasFailed}
-use Rattle.drains.proofs.Results.{err-then, ok-then}
+use Rattle.world.specs.Turns.{HasFailed}
+use Rattle.world.proofs.Results.{err-then, ok-then}
 use Rattle.world.proofs.WorkerLaws.{failed-only-memory}
 use Rattle.node.specs.Workers.{worker_at}
 use Rattle.world.specs.Stepping.{IsCausedBy}

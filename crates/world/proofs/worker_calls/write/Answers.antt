@@ -1,9 +1,9 @@
 use Rattle.std.proofs.Common.{rules}
 use Rattle.std.specs.Prelude.{IfErr, IfOk}
-use Rattle.scripts.specs.declared.step.Step.TheVariants as steps
+use Rattle.world.specs.declared.step.Step.TheVariants as steps
 use Rattle.world.specs.WorkerCalls.{ActsOn, HasCalled, IsFullOn}
 use Rattle.world.proofs.ActsOnLaws.{write-on}
-use Rattle.drains.proofs.Results.{ok-then}
+use Rattle.world.proofs.Results.{ok-then}
 use Rattle.world.proofs.WorkerLaws.{by-result, called-by, err-with, leases-asked, leases-same, written-leases}
 use Rattle.node.specs.Asking.{work_asked}
 use Rattle.node.specs.Workers.{sending_of, with_written, worker_at}

@@ -1,7 +1,7 @@
 use Rattle.std.proofs.Common.{◌≡◌, ◌++◌, List, ap, arith, drop, length, rules, subst, sym, take, ℕ, ◌∙◌}
 use Rattle.std.specs.Prelude.{Some, slice_get}
 use Rattle.node.specs.Workers.{NodeView}
-use Rattle.scripts.specs.Worlds.{world_on}
+use Rattle.world.specs.Worlds.{world_on}
 use Rattle.world.specs.WorldDrains.{AreNew}
 use Rattle.world.specs.WorldStates.{WorldState, world_of}
 use Rattle.world.proofs.StartedWorlds.{crashed-whole, drained-world, draining-world}

@@ -1,5 +1,5 @@
 use Rattle.std.proofs.Common.{subst, sym}
-use Rattle.drains.specs.DrainTurns.{IsUnderWay}
+use Rattle.world.specs.DrainTurns.{IsUnderWay}
 use Rattle.world.specs.WorldDrains.{HasDrain}
 use Rattle.world.specs.WorldStates.{WorldState}
 use Rattle.world.proofs.StartedWorlds.{drain-on, drained-world, draining-world, ok-left, turned-case}

@@ -1,11 +1,11 @@
 use Rattle.std.proofs.Common.{◌≡◌, subst}
 use Rattle.std.specs.Prelude.{IfOk, OnErr}
-use Rattle.scripts.specs.Worlds.{worker_of}
-use Rattle.scripts.specs.declared.step.Step.TheVariants as steps
+use Rattle.world.specs.Worlds.{worker_of}
+use Rattle.world.specs.declared.step.Step.TheVariants as steps
 use Rattle.world.specs.Stepping.{HasActed}
 use Rattle.world.specs.WorkerCalls.{HasGoneOn}
 use Rattle.world.specs.WorldStates.{WorldState, world_of}
-use Rattle.drains.proofs.Results.{err-then, ok-then}
+use Rattle.world.proofs.Results.{err-then, ok-then}
 use Rattle.world.proofs.SendWorlds.{sent-at, unsent-at}
 use Rattle.world.proofs.StandLaws.{world-after}
 use Rattle.world.proofs.WorkerLaws.{err-three}

@@ -1,10 +1,10 @@
 use Rattle.std.proofs.Common.{◌≡◌, subst, sym}
 use Rattle.std.specs.Prelude.{IfErr, IfOk, OnErr}
-use Rattle.scripts.specs.Steps.{IsStep}
+use Rattle.world.specs.Steps.{IsStep}
 use Rattle.world.specs.Stepping.{HasActed, IsCausedBy, worker_of_step}
 use Rattle.world.specs.WorkerCalls.{IsAlone, IsFullStep}
 use Rattle.world.specs.WorldStates.{WorldState, world_of}
-use Rattle.drains.proofs.Results.{err-then, ok-then}
+use Rattle.world.proofs.Results.{err-then, ok-then}
 use Rattle.world.proofs.WorldSteps.{acted-at, at-index, changed, fits-index, rested-at, stands-at, work-moved}
 use Rattle.world.proofs.WorkerLaws.{err-left}
 use Rattle.world.proofs.CauseLaws.{alone-cause}

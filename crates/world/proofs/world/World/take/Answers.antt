@@ -7,17 +7,17 @@ use Rattle.outbox.specs.Messages.{IsAddressed}
 use Rattle.node.specs.Received.{outgoing_of}
 use Rattle.node.specs.Workers.{worker_at}
 use Rattle.node.specs.declared.outcome.Outcome.TheVariants as outcomes
-use Rattle.scripts.specs.declared.step.Step.TheVariants as steps
+use Rattle.world.specs.declared.step.Step.TheVariants as steps
 use Rattle.world.specs.Standing.{IsWorld}
 use Rattle.world.specs.Stepping.{HasActed, HasFaulted, IsCausedBy}
 use Rattle.world.specs.WorkerCalls.{IsFullStep, answered_in_place}
 use Rattle.world.specs.WorldStates.{WorldState, world_of}
-use Rattle.drains.proofs.Results.{err-then, ok-then}
+use Rattle.world.proofs.Results.{err-then, ok-then}
 use Rattle.world.proofs.TakeLaws.{ready-of}
 use Rattle.world.proofs.TakeSteps.{found-sent, take-left, take-not, taken-at, taken-rested, taken-stands}
 use Rattle.world.proofs.WorkerLaws.{err-left}
 use Rattle.world.proofs.WorldSteps.{at-index, changed, fits-index, work-moved}
-use Rattle.scripts.specs.Worlds.{worker_of}
+use Rattle.world.specs.Worlds.{worker_of}
 use Rattle.world.proofs.CauseLaws.{left-cause, world-cause}
 use Rattle.world.proofs.FullSteps.{taken-full}
 use Rattle.world.proofs.world.World.take.Goals as goal

@@ -1,9 +1,0 @@
-use Rattle.std.proofs.Common.{refl}
-use Rattle.crews.proofs.Handing.{handed-not}
-use Rattle.crews.proofs.boxes.hand_out.Goals as goal
-
-pub loop-pass-init : goal.loop-pass-init
-loop-pass-init g c = record {
-  at = refl;
-  handed = handed-not c.args.made.items c.args.passes.now.items;
-}

@@ -1,5 +1,0 @@
-use Rattle.drains.proofs.OneStep.{ended-none}
-use Rattle.drains.proofs.drains.ended_drains_have_no_next_entry.Goals as goal
-
-pub returns : goal.returns
-returns c = record { none = ended-none }

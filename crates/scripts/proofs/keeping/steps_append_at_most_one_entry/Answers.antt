@@ -1,5 +1,0 @@
-use Rattle.scripts.proofs.Steps.{step-appends, step-grows}
-use Rattle.scripts.proofs.keeping.steps_append_at_most_one_entry.Goals as goal
-
-pub returns : goal.returns
-returns c = record { one = step-appends; grown = step-grows }

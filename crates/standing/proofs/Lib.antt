@@ -1,9 +1,0 @@
-pub mod ChoiceLaws
-pub mod WaitingLaws
-pub mod FoundLaws
-pub mod LeavingLaws
-pub mod KeepingLaws
-pub mod LowLaws
-pub mod FiringLaws
-pub mod WorkLaws
-pub mod WorkSteps

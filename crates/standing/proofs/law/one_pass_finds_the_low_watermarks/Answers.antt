@@ -1,5 +1,0 @@
-use Rattle.standing.proofs.LowLaws.{low-table}
-use Rattle.standing.proofs.law.one_pass_finds_the_low_watermarks.Goals as goal
-
-pub returns : goal.returns
-returns c = record { low = λ case run part topology there. low-table case run topology part there }

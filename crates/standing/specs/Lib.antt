@@ -1,6 +1,0 @@
-pub mod Choices
-pub mod Standings
-pub mod Waits
-pub mod Works
-pub mod Keeping
-pub mod Lows
