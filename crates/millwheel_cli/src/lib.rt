@@ -8,7 +8,7 @@
 //! SEED LINES` is `solo` with a topology of its own and with lines that the seed decides, and writes the
 //! summary line alone. `collect FILE` writes each live line of a text once. `audit --trace FILE T E..` writes
 //! how many entries a printed history has, where it is that of a lawful run. Stands on `command_line`, `world`,
-//! `crews`, `live_outlet` and `audit`, and reaches files and output by `mw_ports`. Public contract: with Ok the
+//! `workers`, `live_outlet` and `audit`, and reaches files and output by `mw_ports`. Public contract: with Ok the
 //! history of `millwheel` is fenced, and exactly its text was written; where a contract can see the keeper's
 //! rows it is what comes before the drain, and then the whole drain, legal and finished, and the rows are its
 //! rows, and the text behind the lines of the history is the plain count of the files. With `--live` that text

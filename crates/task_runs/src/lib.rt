@@ -1,7 +1,7 @@
 //! What is done with a task: its case is run to its end over a keeper, on one thread or first in rounds of workers that
 //! are threads, or is counted at once without a run; and its text is written, at the end or result by result.
 //!
-//! Stands on `world`, `crews`, `plain_answer` and `live_outlet`, and reaches the output by `mw_ports`. Public contract:
+//! Stands on `world`, `workers`, `plain_answer` and `live_outlet`, and reaches the output by `mw_ports`. Public contract:
 //! each call ends with a status, which leaves of history, rows and text what is said of it (`RunLeaves`; of a count
 //! `TextLeaves`); a keeper's fault and a sink's are counted by those. Definitions, in the order of reading:
 //! `specs/Tasks.antt`, what a task names; `specs/Histories.antt`, how a history goes; `specs/Lives.antt`, what a text is
