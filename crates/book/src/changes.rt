@@ -32,30 +32,8 @@ pub(crate) struct Change {
     pub(crate) moves: Moves,
 }
 
-// What a proposal changes under a lease, and the number of its entry.
+// What a proposal changes under a sequencer, and the number of its entry.
 pub(crate) fn change_of(
-    alloc: Global,
-    case: &Case,
-    lease: &Lease,
-    name: &RowName,
-    row: &Row,
-    proposal: &Proposal,
-    commit: u64,
-) -> Result<Change, NoMemory>
-    requires proposal { IsProposable case.now name.now row.now proposal.now }
-    requires fit { fits case.now commit name.now row.now ≡ true }
-    requires commit { commit < 2 ^ 32 }
-    ensures entry { IfOk result (λ change.
-        IsEntryOf case.now lease.now.seq name.now proposal.now change.entry) }
-    ensures may { IfOk result (λ change. MayMove row.now change.moves) }
-    ensures left { IfOk result (λ change. moved change.moves row.now
-        ≡ left_by case.now.topology name.now proposal.now commit change.entry row.now) }
-{
-    change_under(alloc, case, lease.seq(), name, row, proposal, commit)
-}
-
-// What a proposal changes, under a sequencer and the number of its entry.
-pub(crate) fn change_under(
     alloc: Global,
     case: &Case,
     seq: u64,

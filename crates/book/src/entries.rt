@@ -6,7 +6,7 @@ ghost use Rattle.run_history.specs.Fits.{fits};
 ghost use Rattle.run_history.specs.Made.{produced};
 ghost use Rattle.book.specs.Proposals.{IsEntryOf, IsProposable, left_by};
 
-use crate::changes::{Change, change_under};
+use crate::changes::{Change, change_of};
 use crate::proposal::Proposal;
 use mw_types::{Duplicate, Effects, Entry, NoMemory, Production, Record, RecordId, RowName, Timer};
 use row_parts::{Moves, Row};
@@ -40,7 +40,7 @@ pub fn step_of(
     ensures left { IfOk result (λ step.
         step.left ≡ left_by case.now.topology name.now proposal.now commit step.entry row.now) }
 {
-    let Change { entry, moves } = change_under(alloc, case, seq, name, row, proposal, commit)?;
+    let Change { entry, moves } = change_of(alloc, case, seq, name, row, proposal, commit)?;
     match changed(alloc, row, moves) {
         Ok(left) => Ok(Step { entry, left }),
         Err(want) => {

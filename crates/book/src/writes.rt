@@ -104,8 +104,10 @@ impl<'a, K: Keeper> Book<'a, K> {
             Err(why) => return Err(why),
         };
         let case = self.case();
-        let made = change_of(alloc, case, lease, name, row, proposal, commit)?;
-        self.change_row(alloc, name, row, made)
+        match change_of(alloc, case, lease.seq(), name, row, proposal, commit) {
+            Ok(made) => self.change_row(alloc, name, row, made),
+            Err(want) => Err(want.into()),
+        }
     }
 
     /// A sender learns that what it made was handled: the row no longer waits for the id.
@@ -184,8 +186,10 @@ impl<'a, K: Keeper> Book<'a, K> {
             Ok(commit) => commit,
             Err(why) => return Err(why),
         };
-        let made = settling(alloc, lease, name, row, id, commit)?;
-        self.change_row(alloc, name, row, made)
+        match settling(alloc, lease, name, row, id, commit) {
+            Ok(made) => self.change_row(alloc, name, row, made),
+            Err(want) => Err(want.into()),
+        }
     }
 
     /// A row forgets the ids of records that are finished: those below the floor.
@@ -262,8 +266,10 @@ impl<'a, K: Keeper> Book<'a, K> {
             Ok(commit) => commit,
             Err(why) => return Err(why),
         };
-        let made = purging(alloc, lease, name, row, floor, commit)?;
-        self.change_row(alloc, name, row, made)
+        match purging(alloc, lease, name, row, floor, commit) {
+            Ok(made) => self.change_row(alloc, name, row, made),
+            Err(want) => Err(want.into()),
+        }
     }
 
     // A copy of a row that is to be written. The sequencer comes first, as in each write.

@@ -20,12 +20,12 @@ returns-in-Err-clause-stale g c = stale-again c.args.self.now.history c.args.lea
 pub change_row-requires : goal.change_row-requires
 change_row-requires g c =
     let entry = Purge c.args.lease.now.seq c.args.name.now c.args.floor in
-    let same : c.in_ok-made.made.entry ≡ entry
-    = c.in_ok-made.ensures.entry in
-    let left = moved c.in_ok-made.made.moves c.args.row.now in
+    let same : c.in-Ok-purging.made.entry ≡ entry
+    = c.in-Ok-purging.ensures.entry in
+    let left = moved c.in-Ok-purging.made.moves c.args.row.now in
     let leaves : left ≡ written_row (length c.args.self.now.history) entry [] c.args.row.now
-    = c.in_ok-made.ensures.left ∙ ap (λ n. written_row n entry [] c.args.row.now) c.in-Ok.ensures.commit in record {
-      may = c.in_ok-made.ensures.may;
+    = c.in-Ok-purging.ensures.left ∙ ap (λ n. written_row n entry [] c.args.row.now) c.in-Ok.ensures.commit in record {
+      may = c.in-Ok-purging.ensures.may;
       next = subst (λ (e : Entry). IsNext c.args.self.now.case (core_of c.args.self.now) c.args.name.now e left) (sym same)
           (IsNext-purged c.args.self.now c.args.lease.now c.args.front c.args.name.now c.args.row.now left c.args.floor
           c.admit.ensures.lawful c.requires.lease c.requires.row c.requires.floor c.in-Ok.ensures.last c.in-Ok.ensures.room leaves);
@@ -36,14 +36,14 @@ change_row-requires g c =
     }
 
 -- what was appended is the entry
-pub returns-clause-written : goal.returns-clause-written
-returns-clause-written g c =
+pub returns-in-Ok-purging-clause-written : goal.returns-in-Ok-purging-clause-written
+returns-in-Ok-purging-clause-written g c =
     let entry = Purge c.args.lease.now.seq c.args.name.now c.args.floor in
-    let same : c.in_ok-made.made.entry ≡ entry
-    = c.in_ok-made.ensures.entry in
-    let left = moved c.in_ok-made.made.moves c.args.row.now in
+    let same : c.in-Ok-purging.made.entry ≡ entry
+    = c.in-Ok-purging.ensures.entry in
+    let left = moved c.in-Ok-purging.made.moves c.args.row.now in
     let leaves : left ≡ written_row (length c.args.self.now.history) entry [] c.args.row.now
-    = c.in_ok-made.ensures.left ∙ ap (λ n. written_row n entry [] c.args.row.now) c.in-Ok.ensures.commit in
+    = c.in-Ok-purging.ensures.left ∙ ap (λ n. written_row n entry [] c.args.row.now) c.in-Ok.ensures.commit in
     IsWritten-result c.args.self.now c.change_row.new.self c.args.lease.now c.args.name.now entry _
     (written_row (length c.args.self.now.history) entry [] c.args.row.now) c.change_row.new.row c.change_row.result
     (IsNext-purged c.args.self.now c.args.lease.now c.args.front c.args.name.now c.args.row.now _ c.args.floor
@@ -52,8 +52,8 @@ returns-clause-written g c =
     (on_ok_weaker c.change_row.result (λ changed. changed ∙ leaves) c.change_row.ensures.changed)
 
 -- the row that was handed in was the history's
-pub returns-clause-found : goal.returns-clause-found
-returns-clause-found g c = when-written c.change_row.result
+pub returns-in-Ok-purging-clause-found : goal.returns-in-Ok-purging-clause-found
+returns-in-Ok-purging-clause-found g c = when-written c.change_row.result
     (row-was c.args.self.now c.args.lease.now c.args.front c.args.name.now c.args.row.now c.admit.ensures.lawful
     c.requires.lease c.requires.row c.in-Ok.ensures.last)
 
