@@ -1,8 +1,9 @@
 //! What the entries of a history have beside their numbers.
 ghost use Rattle.std.specs.Prelude.{◌≡◌, ◌<◌, ◌++◌, ◌∷◌, [], IfOk, IfSome, OnErr, OnOk, length};
+ghost use Rattle.mw_types.specs.declared.entry.Entry.TheVariants as entries;
 ghost use Rattle.run_history.specs.Lent.{lent};
 ghost use Rattle.run_history.specs.declared.packed.Packed.TheVariants.{Fire, Handle};
-ghost use Rattle.run_history.specs.Naming.{IsNumbered, Keeps};
+ghost use Rattle.run_history.specs.Naming.{IsNumbered, Keeps, name_at};
 ghost use Rattle.run_history.specs.Packing.{HasName, HasNumbers, IsLast, IsNext, IsPacked, KeepsDetails, counts_of, none_yet, unpacked, with_entry};
 
 use crate::entry_ref::EntryRef;
@@ -58,9 +59,13 @@ impl Details {
             × (counts_of self.new ≡ with_entry p (counts_of self.old))) }
         ensures same { OnErr result (counts_of self.new ≡ counts_of self.old) }
     {
-        match self.numbers(&entry)? {
-            Some(numbers) => self.pack_by(entry, numbers),
-            None => self.pack_whole(entry),
+        match self.numbers(&entry) {
+            Ok(Some(numbers)) => self.pack_by(entry, numbers),
+            Ok(None) => self.pack_whole(entry),
+            Err(want) => {
+                drop(entry);
+                Err(want)
+            }
         }
     }
 
@@ -98,53 +103,120 @@ impl Details {
                 line,
                 item,
                 ..
+            } => self.pack_inject(seq, part, line, item),
+            Entry::Handle {
+                row: name,
+                id,
+                effects,
+                ..
             } => {
-                let item = add(&mut self.items, item)?;
-                Ok(Packed::Inject {
-                    seq,
-                    part,
-                    line,
-                    item,
-                })
-            }
-            Entry::Handle { id, effects, .. } => {
-                let index = id.index;
-                let handled = add(&mut self.handled, Handled { index, effects })?;
-                Ok(Packed::Handle {
-                    seq,
-                    row,
-                    commit,
-                    handled,
-                })
+                drop(name);
+                self.pack_handle(numbers, id.index, effects)
             }
             Entry::Fire {
+                row: name,
                 timer,
                 mark,
                 effects,
                 ..
             } => {
-                let fired = add(
-                    &mut self.fired,
-                    Fired {
-                        timer,
-                        mark,
-                        effects,
-                    },
-                )?;
-                Ok(Packed::Fire { seq, row, fired })
+                drop(name);
+                self.pack_fire(numbers, timer, mark, effects)
             }
-            Entry::Ack { id, .. } => Ok(Packed::Ack {
-                seq,
-                row,
-                commit,
-                index: id.index,
-            }),
-            Entry::Purge { .. } => Ok(Packed::Purge {
-                seq,
-                row,
-                floor: commit,
-            }),
+            Entry::Ack { row: name, id, .. } => {
+                drop(name);
+                Ok(Packed::Ack {
+                    seq,
+                    row,
+                    commit,
+                    index: id.index,
+                })
+            }
+            Entry::Purge { row: name, .. } => {
+                drop(name);
+                Ok(Packed::Purge {
+                    seq,
+                    row,
+                    floor: commit,
+                })
+            }
         }
+    }
+
+    // Takes the record of an injected line.
+    fn pack_inject(
+        &mut self,
+        seq: u32,
+        part: u32,
+        line: u32,
+        item: Record,
+    ) -> Result<Packed, NoMemory>
+        ensures kept { KeepsDetails self.old self.new }
+        ensures packed { IfOk result (λ p. IsPacked self.new p
+            × (unpacked self.new p ≡ entries.Inject seq part line item)) }
+        ensures counted { IfOk result (λ p. IsNext (counts_of self.old) p
+            × (counts_of self.new ≡ with_entry p (counts_of self.old))) }
+        ensures same { OnErr result (counts_of self.new ≡ counts_of self.old) }
+    {
+        let item = add(&mut self.items, item)?;
+        Ok(Packed::Inject {
+            seq,
+            part,
+            line,
+            item,
+        })
+    }
+
+    // Takes what the handler of a record left, whose entry has these numbers.
+    fn pack_handle(
+        &mut self,
+        numbers: Numbers,
+        index: u32,
+        effects: Effects,
+    ) -> Result<Packed, NoMemory>
+        requires name { numbers.row < length self.old.names }
+        ensures kept { KeepsDetails self.old self.new }
+        ensures packed { IfOk result (λ p. IsPacked self.new p × (unpacked self.new p
+            ≡ entries.Handle numbers.seq (name_at self.old.names numbers.row)
+            (record { commit = numbers.commit; index = index }) effects)) }
+        ensures counted { IfOk result (λ p. IsNext (counts_of self.old) p
+            × (counts_of self.new ≡ with_entry p (counts_of self.old))) }
+        ensures same { OnErr result (counts_of self.new ≡ counts_of self.old) }
+    {
+        let Numbers { seq, row, commit } = numbers;
+        let handled = add(&mut self.handled, Handled { index, effects })?;
+        Ok(Packed::Handle {
+            seq,
+            row,
+            commit,
+            handled,
+        })
+    }
+
+    // Takes what the handler of a timer left, whose entry has these numbers.
+    fn pack_fire(
+        &mut self,
+        numbers: Numbers,
+        timer: Timer,
+        mark: u64,
+        effects: Effects,
+    ) -> Result<Packed, NoMemory>
+        requires name { numbers.row < length self.old.names }
+        ensures kept { KeepsDetails self.old self.new }
+        ensures packed { IfOk result (λ p. IsPacked self.new p × (unpacked self.new p
+            ≡ entries.Fire numbers.seq (name_at self.old.names numbers.row) timer mark effects)) }
+        ensures counted { IfOk result (λ p. IsNext (counts_of self.old) p
+            × (counts_of self.new ≡ with_entry p (counts_of self.old))) }
+        ensures same { OnErr result (counts_of self.new ≡ counts_of self.old) }
+    {
+        let Numbers { seq, row, .. } = numbers;
+        let fired = Fired {
+            timer,
+            mark,
+            effects,
+        };
+        let fired = add(&mut self.fired, fired)?;
+        Ok(Packed::Fire { seq, row, fired })
     }
 
     // Takes an entry as it is.
