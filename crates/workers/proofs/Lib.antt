@@ -23,7 +23,7 @@ pub mod Plainly
 pub mod Silence
 pub mod Closed
 pub mod Sending
-pub mod CrewCounts
+pub mod MailboxCounts
 pub mod PassLists
 pub mod Working
 pub mod Serving

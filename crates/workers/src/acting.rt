@@ -6,8 +6,8 @@ ghost use Rattle.workers.specs.Actions.{IsActionOf, acted};
 ghost use Rattle.workers.specs.Crews.{AreCalm, AreHealthy, AreWorkers, HasDone, IsFaulty, KeepsOrders, KeepsPasses, StayCalm, spent, stall_of};
 
 use crate::claiming::claim_one;
+use crate::counts::intervals_in;
 use crate::crew::Worker;
-use crate::crew_counts::intervals_in;
 use crate::office::Office;
 use node::Node;
 use plans::{Action, What};

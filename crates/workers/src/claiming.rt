@@ -5,8 +5,8 @@ ghost use Rattle.run_history.specs.Cases.{intervals_of};
 ghost use Rattle.workers.specs.Claims.{HasClaimedTo, HaveClaimedOnly, HaveClaimedSome, HoldFirst, LeasesOne, claimed_by};
 ghost use Rattle.workers.specs.Crews.{AreFresh, AreHealthy, AreWorkers, ClaimsOne, HasDone, IsFaulty, KeepsOrders, KeepsOwn, KeepsPasses, OthersStay};
 
+use crate::counts::intervals_in;
 use crate::crew::Worker;
-use crate::crew_counts::intervals_in;
 use crate::office::Office;
 use crate::telling::{tell, tell_all};
 use row_keeper::Keeper;

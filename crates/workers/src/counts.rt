@@ -1,7 +1,7 @@
 //! How many parts and intervals a case has.
 ghost use Rattle.std.specs.Prelude.{◌≡◌, ◌≤◌, length};
 ghost use Rattle.run_history.specs.Cases.{intervals_of};
-ghost use Rattle.topology.specs.Rules.{interval_count};
+ghost use Rattle.topology.specs.Rules.{IsTopology, interval_count};
 ghost use Rattle.topology.specs.Shapes.{injectors_of, parts_of};
 
 use run_history::Case;
@@ -31,4 +31,11 @@ pub(crate) fn injectors_in(case: &Case) -> u32
 {
     let _parts = case.topology.parts();
     case.topology.injectors()
+}
+
+// A case's topology keeps the rules of topologies.
+pub(crate) fn keeps_rules(case: &Case)
+    ensures rules { IsTopology case.now.topology }
+{
+    let _parts = case.topology.parts();
 }

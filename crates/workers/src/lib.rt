@@ -21,11 +21,10 @@
 mod acting;
 mod boxes;
 mod calls;
+mod claim_tries;
 mod claiming;
 mod counts;
 mod crew;
-mod crew_counts;
-mod crew_tries;
 mod dealing;
 mod ended;
 mod hand;

@@ -14,7 +14,7 @@ ghost use Rattle.workers.specs.Claims.{HasLeased};
 ghost use Rattle.workers.specs.Crews.{HasClaimedOne, HasFaultCause, HasGoneOn};
 ghost use Rattle.workers.specs.Seats.{IsSeated};
 
-use crate::crew_tries::claim;
+use crate::claim_tries::claim;
 use crate::mailbox::Mailbox;
 use crate::office::Office;
 use crate::orders::Orders;

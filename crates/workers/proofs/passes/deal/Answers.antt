@@ -1,5 +1,5 @@
 use Rattle.crossbeam_queue.specs.Passes.{view}
-use Rattle.workers.proofs.CrewCounts.{deals}
+use Rattle.workers.proofs.MailboxCounts.{deals}
 use Rattle.workers.proofs.passes.deal.Goals as goal
 
 pub another-requires-clause-rule : goal.another-requires-clause-rule

@@ -1,7 +1,7 @@
 use Rattle.std.proofs.Common.{rules}
 use Rattle.crossbeam_queue.specs.Passes.{view}
 use Rattle.workers.specs.Mailboxes.{HasHeld}
-use Rattle.workers.proofs.CrewCounts.{learns, left_of_held, takes}
+use Rattle.workers.proofs.MailboxCounts.{learns, left_of_held, takes}
 use Rattle.workers.proofs.mailbox.Mailbox.pop.Goals as goal
 
 pub pop_as-requires-clause-rule : goal.pop_as-requires-clause-rule

@@ -1,7 +1,7 @@
 use Rattle.std.proofs.Common.{rules}
 use Rattle.crossbeam_queue.specs.Passes.{ruled_capacity, view}
 use Rattle.workers.specs.Mailboxes.{HasHeld}
-use Rattle.workers.proofs.CrewCounts.{learns, left_of_held, puts}
+use Rattle.workers.proofs.MailboxCounts.{learns, left_of_held, puts}
 use Rattle.workers.proofs.mailbox.Mailbox.push.Goals as goal
 
 pub push_as-requires-clause-rule : goal.push_as-requires-clause-rule

@@ -4,7 +4,7 @@ use Rattle.list_lemmas.proofs.Told.{on_err-anyway}
 use Rattle.workers.specs.Crews.{HasClaimedOne}
 use Rattle.workers.proofs.Going.{gone-less, gone-looked}
 use Rattle.workers.proofs.Trying.{cause-claim, claim-busy, claim-done, claim-kept, claim-leased, own-looked}
-use Rattle.workers.proofs.crew_tries.claim.Goals as goal
+use Rattle.workers.proofs.claim_tries.claim.Goals as goal
 
 pub loop-init : goal.loop-init
 loop-init g c = record {

@@ -2,7 +2,7 @@ use Rattle.std.proofs.Common.{◌≡◌}
 use Rattle.book.specs.Desks.{HasLooked}
 use Rattle.node.specs.Answers.{HasKept}
 use Rattle.node.specs.Fits.{Fits}
-use Rattle.workers.proofs.crew_tries.claim.Given as goal
+use Rattle.workers.proofs.claim_tries.claim.Given as goal
 
 -- nothing was appended so far
 abbrev pub invariant-loop : goal.invariant-loop
