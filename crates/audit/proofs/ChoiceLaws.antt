@@ -1,6 +1,6 @@
 -- Which entries are lawful of a choice.
 use Rattle.std.proofs.Common.{◌≡◌, ◌∙◌, ◌<◌, ℕ, true, List, [], length, refl, sym, ap, subst}
-use Rattle.std.specs.Prelude.{IsNone, IsSome, None, Some, slice_get}
+use Rattle.std.specs.Prelude.{IsNone, IsSome, None, Some}
 use Rattle.list_lemmas.proofs.Lists.{some_same}
 use Rattle.mw_types.specs.declared.identity.RecordId.{RecordId}
 use Rattle.mw_types.specs.declared.identity.RowName.{RowName}
@@ -12,12 +12,10 @@ use Rattle.run_history.specs.Cases.{CaseShape, is_injector, source_of}
 use Rattle.run_history.specs.Made.{row_written}
 use Rattle.run_history.specs.Runs.{row_of, run_of}
 use Rattle.run_history.specs.Watermarks.{cursor_of}
-use Rattle.run_history.specs.Legal.{timer_outcome}
 use Rattle.run_history.specs.Fences.{IsUnderLastClaim, sequencer_of}
 use Rattle.trace_lines.specs.declared.choice.Choice.{Choice}
 use Rattle.trace_lines.specs.declared.choice.Choice.TheVariants as choices
-use Rattle.trace_lines.specs.Choices.{choice_of}
-use Rattle.audit.specs.Choices.{IsChosen, MayCome}
+use Rattle.audit.specs.Choices.{IsChosen}
 use Rattle.audit.specs.Keeping.{sequencer_for}
 
 -- an entry that carries the sequencer of its row is under the last claim

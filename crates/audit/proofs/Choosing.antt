@@ -1,5 +1,5 @@
 -- What a line tells of the entry that may come next.
-use Rattle.std.proofs.Common.{◌≡◌, ℕ, ◌+◌, ◌<◌, ◌^◌, List, length, sym, ap, ◌∙◌, arith}
+use Rattle.std.proofs.Common.{◌≡◌, ℕ, List, length, sym, ap, ◌∙◌, arith}
 use Rattle.std.specs.Prelude.{None, Some}
 use Rattle.list_lemmas.proofs.Lists.{none_some, some_same}
 use Rattle.mw_types.specs.declared.entry.Entry.{Entry}

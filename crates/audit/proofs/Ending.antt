@@ -8,7 +8,6 @@ use Rattle.run_history.specs.Cases.{CaseShape}
 use Rattle.run_history.specs.HistoryLines.{lines_of_history}
 use Rattle.run_history.specs.Texts.{IsResultText}
 use Rattle.history_laws.specs.Writes.{IsLegalAndFenced}
-use Rattle.trace_lines.specs.declared.refusal.AuditWhy.{AuditWhy}
 use Rattle.trace_lines.specs.declared.refusal.AuditWhy.TheVariants.{NotALine, Unlawful, NotFinished, BadText}
 use Rattle.trace_lines.specs.declared.refusal.AuditRefusal.{AuditRefusal}
 use Rattle.trace_lines.specs.declared.refusal.AuditRefusal.TheVariants.{Bad, NoMemory}

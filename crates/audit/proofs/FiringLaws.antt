@@ -14,7 +14,7 @@ use Rattle.computations.specs.Handlers.{has_kind}
 use Rattle.row_parts.specs.Contents.{Contents, fresh}
 use Rattle.run_history.specs.Cases.{CaseShape, fresh_of, is_injector, source_of}
 use Rattle.run_history.specs.Fits.{is_cursor_within, suits_part}
-use Rattle.run_history.specs.Runs.{Run, cached, row_in, row_of, run_of}
+use Rattle.run_history.specs.Runs.{Run, row_in, row_of, run_of}
 use Rattle.run_history.specs.Watermarks.{low_watermark}
 use Rattle.run_history.proofs.Fitting.{fits-parts}
 use Rattle.history_laws.proofs.FitLaws.{legal-fits}

@@ -1,5 +1,5 @@
 -- The line of an entry gives that entry, but for what is not printed of it.
-use Rattle.std.proofs.Common.{◌≡◌, ℕ, ℤ, zero, suc, ◌+◌, ◌<◌, ◌≤◌, ◌^◌, ◌/◌, ◌%◌, List, [], ◌∷◌, ◌++◌, length, map, Option, Some, None, codes, w64, refl, sym, ap, ap₂, ◌∙◌, arith, IsTrue, Bool}
+use Rattle.std.proofs.Common.{◌≡◌, ℕ, ℤ, zero, suc, ◌+◌, ◌<◌, ◌≤◌, ◌^◌, List, [], ◌∷◌, ◌++◌, length, map, Option, Some, None, w64, refl, sym, ap, ◌∙◌, arith, IsTrue, Bool}
 use Rattle.std.specs.Prelude.{◌↔◌, Err, IfOk, Ok, Result}
 use Rattle.std.specs.Int.{cast_unsigned, to_be_bytes, w32}
 use Rattle.std.specs.List.{AllByRecursion, flat_map}
@@ -10,8 +10,6 @@ use Rattle.hex.specs.Hex.{IsBytes, decode_of, encode_lower}
 use Rattle.hex.proofs.HexLemmas.{decode_of-encode_lower}
 use Rattle.list_lemmas.proofs.Lists.{each-append, each-both, none_some, some_same}
 use Rattle.mw_types.specs.declared.TheConstants.{MAX_STAMP}
-use Rattle.mw_types.specs.declared.identity.RecordId.{RecordId}
-use Rattle.mw_types.specs.declared.record.Record.{Record}
 use Rattle.mw_types.specs.declared.record.Production.{Production}
 use Rattle.mw_types.specs.declared.timer.Timer.{Timer}
 use Rattle.mw_types.specs.declared.state.Window.{Window}
@@ -32,11 +30,11 @@ use Rattle.row_parts.proofs.StateLaws.{state_reads, whole_again, whole_takes}
 use Rattle.run_history.specs.HistoryLines.{array_data, entry_data, handled_data, id_data, production_data, state_data, timer_data}
 use Rattle.live_outlet.proofs.IdLaws.{print-own, bytes-small}
 use Rattle.live_outlet.proofs.Reading.{value-own}
-use Rattle.trace_lines.specs.Entries.{IsEntry, IsEntryLine, IsOutcome, IsProduction, IsRecord}
+use Rattle.trace_lines.specs.Entries.{IsEntry, IsEntryLine, IsOutcome, IsProduction}
 use Rattle.trace_lines.specs.Lines.{text_of_entry}
 use Rattle.trace_lines.proofs.Choosing.{key-own, row-own, short-own}
 use Rattle.trace_lines.proofs.Writing.{entry-json}
-use Rattle.audit.specs.Guesses.{as_printed, entry_guessed, entry_in, found_in, in_print, in_time, item_in, production_in, timer_in}
+use Rattle.audit.specs.Guesses.{as_printed, entry_guessed, entry_in, found_in, in_print, in_time, production_in, timer_in}
 
 -- ---- the bytes of a state
 

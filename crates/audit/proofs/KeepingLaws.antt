@@ -1,6 +1,6 @@
 -- What is kept stays what stands after the history, as entries come.
 use Rattle.std.proofs.Common.{◌≡◌, ◌∙◌, ◌<◌, ◌≤◌, ◌^◌, ◌+◌, ◌-◌, ℕ, true, false, cond, List, [], ◌∷◌, ◌++◌, length, drop, refl, sym, ap, subst, arith, append-nil}
-use Rattle.std.specs.Prelude.{Err, IsSome, None, Ok, OnOk, Option, Result, Some, filter, unwrap_or}
+use Rattle.std.specs.Prelude.{Err, None, Ok, OnOk, Option, Result, Some, filter, unwrap_or}
 use Rattle.std.specs.Option.{option_map_or}
 use Rattle.std.specs.List.{AllByRecursion}
 use Rattle.std.specs.List.Sorted.{IsStrictlySortedBy}
@@ -9,31 +9,27 @@ use Rattle.std.specs.Ordering.{nat_cmp}
 use Rattle.std.proofs.lemmas.List.{drop_all, drop-append-le}
 use Rattle.std.proofs.lemmas.List.Elements.{recursion_from_All}
 use Rattle.std.proofs.lemmas.List.Kept.{IsStrictlySortedBy-filter}
-use Rattle.list_lemmas.proofs.Lists.{each-append, each-filter, find-each, find-passes, some_same}
+use Rattle.list_lemmas.proofs.Lists.{each-append, each-filter}
 use Rattle.list_lemmas.proofs.Places.{each-behind}
 use Rattle.mw_types.specs.Orders.{row_cmp}
-use Rattle.mw_types.specs.declared.identity.RecordId.{RecordId}
 use Rattle.mw_types.specs.declared.identity.RowName.{RowName}
 use Rattle.mw_types.specs.declared.delivery.Delivery.{Delivery}
 use Rattle.mw_types.specs.declared.entry.Entry.{Entry}
 use Rattle.mw_types.specs.declared.entry.Entry.TheVariants.{Claim, Inject, Handle, Fire, Ack, Purge}
-use Rattle.topology.specs.Shapes.{Shape, injectors_of, kind_of, parts_of, stream_of}
-use Rattle.row_parts.specs.Contents.{Contents, IsId, delivery_cmp, found_delivery, fresh, is_finished, same_id}
+use Rattle.topology.specs.Shapes.{Shape, injectors_of, parts_of, stream_of}
+use Rattle.row_parts.specs.Contents.{Contents, IsId, delivery_cmp, fresh, same_id}
 use Rattle.run_history.specs.Cases.{CaseShape, fresh_of}
-use Rattle.run_history.specs.Fences.{is_claim, last_claim}
+use Rattle.run_history.specs.Fences.{is_claim}
 use Rattle.run_history.specs.Legal.{MayFollow}
 use Rattle.run_history.specs.Made.{deliveries_made, deliveries_of, late_cause, productions_of, row_written}
 use Rattle.run_history.specs.Printing.{IsOnPart}
-use Rattle.run_history.specs.Runs.{Run, cached, changed, followed, row_after, row_in, row_of, rows_after, run_of, still_unhandled}
+use Rattle.run_history.specs.Runs.{Run, cached, changed, followed, row_after, row_in, row_of, run_of, still_unhandled}
 use Rattle.run_history.proofs.Claims.{last_claim-push}
 use Rattle.run_history.proofs.Fenced.{IsFenced-empty, IsFenced-push}
 use Rattle.run_history.specs.Inputs.{IsRunnable}
 use Rattle.run_history.proofs.RunLaws.{IsLegal-push, next-length, run_of-push}
 use Rattle.run_history.proofs.Making.{consumers_few}
-use Rattle.run_history.proofs.Fitting.{fits-parts, kind-some}
-use Rattle.run_history.specs.Fits.{fits, is_sent_before, suits_part}
 use Rattle.history_laws.specs.Ids.{is_left}
-use Rattle.history_laws.specs.Writes.{IsLegalAndFenced}
 use Rattle.history_laws.proofs.IdLaws.{AreIds-followed, legal-ids}
 use Rattle.history_laws.proofs.PrintLaws.{legal-on_parts}
 use Rattle.book.proofs.ClaimLaws.{KnowsClaims-row}
@@ -48,7 +44,7 @@ use Rattle.run_history.specs.Finished.{unfinished, work_in}
 use Rattle.book.specs.declared.answers.NamedRow.{NamedRow}
 use Rattle.audit.specs.declared.kept.Kept.{Kept}
 use Rattle.audit.specs.Choices.{MayCome}
-use Rattle.audit.specs.Keeping.{HasChanged, HasClaimed, HasWorkLeft, IsFollowed, IsKept, IsLeftOf, newly_pending, pending_in, row_left}
+use Rattle.audit.specs.Keeping.{HasChanged, HasClaimed, HasWorkLeft, IsFollowed, IsKept, IsLeftOf, newly_pending, pending_in}
 use Rattle.audit.specs.Waits.{AreWaiting}
 use Rattle.audit.specs.Works.{AreWorks, HasWorked}
 use Rattle.audit.proofs.WaitingLaws.{waiting-changed}

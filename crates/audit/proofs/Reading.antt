@@ -4,11 +4,10 @@ use Rattle.std.specs.Prelude.{◌⊎◌, None}
 use Rattle.std.specs.List.{take_while}
 use Rattle.mw_types.specs.declared.entry.Entry.{Entry}
 use Rattle.run_history.specs.Cases.{CaseShape}
-use Rattle.run_history.specs.Fences.{IsFenced}
 use Rattle.run_history.specs.HistoryLines.{lines_of_history}
 use Rattle.history_laws.specs.Writes.{IsLegalAndFenced}
 use Rattle.history_laws.proofs.SeenLaws.{IsLegalAndFenced-front}
-use Rattle.trace_lines.specs.Lines.{IsCut, begins_entry, entry_lines_in, lines_in, text_of_entry}
+use Rattle.trace_lines.specs.Lines.{IsCut, begins_entry, lines_in, text_of_entry}
 use Rattle.trace_lines.specs.Readings.{texts_from, IsReading, IsFirstUnread}
 use Rattle.trace_lines.proofs.OneReading.{comes-next, reading-long, reading-one}
 use Rattle.trace_lines.proofs.Parting.{begin-from, take_while-passed}

@@ -1,5 +1,5 @@
 -- A text is that of one run at most, and of none where a line is wrong.
-use Rattle.std.proofs.Common.{◌≡◌, ℕ, ◌+◌, ◌<◌, ◌≤◌, ◌^◌, List, [], ◌∷◌, ◌++◌, length, take, drop, refl, sym, ap, subst, ◌∙◌, arith, append_assoc, length-append}
+use Rattle.std.proofs.Common.{◌≡◌, ℕ, ◌+◌, ◌<◌, ◌^◌, List, [], ◌∷◌, ◌++◌, length, take, drop, sym, ap, subst, ◌∙◌, arith, append_assoc, length-append}
 use Rattle.std.proofs.lemmas.List.{length-take, take-append-drop, take-append-le, take_all}
 use Rattle.mw_types.specs.declared.entry.Entry.{Entry}
 use Rattle.run_history.specs.Cases.{CaseShape}
@@ -13,7 +13,7 @@ use Rattle.history_laws.proofs.SeenLaws.{IsLegalAndFenced-front}
 use Rattle.trace_lines.specs.declared.refusal.AuditWhy.{AuditWhy}
 use Rattle.trace_lines.specs.declared.refusal.AuditWhy.TheVariants.{NotALine, Unlawful, NotFinished, BadText}
 use Rattle.trace_lines.specs.Lines.{entry_lines_in}
-use Rattle.trace_lines.specs.Readings.{texts_from, IsReading, IsRead, IsFirstUnread, IsAllRead, IsRunText}
+use Rattle.trace_lines.specs.Readings.{texts_from, IsReading, IsRead, IsFirstUnread, IsRunText}
 use Rattle.trace_lines.specs.Refusals.{IsFirstWrong}
 use Rattle.trace_lines.specs.Values.{AreValued}
 use Rattle.trace_lines.proofs.OneReading.{reading-long, reading-one, run_text-read}

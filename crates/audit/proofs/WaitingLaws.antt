@@ -6,7 +6,6 @@ use Rattle.std.specs.List.Sorted.{IsStrictlySortedBy}
 use Rattle.std.specs.Ordering.{nat_cmp, is_eq}
 use Rattle.std.specs.BTreeMap.{insert_entry}
 use Rattle.std.specs.Cmp.{tied_itself}
-use Rattle.std.specs.declared.cmp.Ordering.{Ordering}
 use Rattle.std.specs.declared.cmp.Ordering.TheVariants.{Less}
 use Rattle.std.proofs.lemmas.Bool.{both_ways}
 use Rattle.std.proofs.lemmas.Map.Lookups.{exact_unsigned}
@@ -24,7 +23,7 @@ use Rattle.run_history.specs.Runs.{still_unhandled}
 use Rattle.run_history.proofs.Lookups.{lookup-insert_entry}
 use Rattle.history_laws.proofs.IdLaws.{passes_once, same_id-itself, same_id-true}
 use Rattle.history_laws.proofs.RowSteps.{both_Equal}
-use Rattle.audit.specs.Keeping.{HasChanged, HasNoted, HasTaken, found_then}
+use Rattle.audit.specs.Keeping.{HasChanged, HasTaken, found_then}
 use Rattle.audit.specs.Waits.{AreWaiting, waiting_in}
 use Rattle.book.proofs.SenderMaps.{same_test}
 

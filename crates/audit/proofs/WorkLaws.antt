@@ -1,6 +1,6 @@
 -- The oldest work of each part stays what stands after the history, as entries come.
-use Rattle.std.proofs.Common.{◌≡◌, ◌≢◌, ◌∙◌, ◌<◌, ◌+◌, ◌-◌, ◌&&◌, ℕ, zero, suc, Bool, true, false, cond, List, [], ◌∷◌, ◌++◌, length, map, get_or, min, refl, sym, ap, subst, arith, sum_by}
-use Rattle.std.specs.Prelude.{Contains, None, Option, Some, filter, not, slice_set, unwrap_or, ◌==◌}
+use Rattle.std.proofs.Common.{◌≡◌, ◌∙◌, ◌<◌, ◌+◌, ◌-◌, ◌&&◌, ℕ, zero, suc, Bool, true, false, cond, List, [], ◌∷◌, ◌++◌, length, map, get_or, min, refl, sym, ap, arith, sum_by}
+use Rattle.std.specs.Prelude.{None, Option, Some, filter, not, slice_set, unwrap_or, ◌==◌}
 use Rattle.std.specs.Option.{option_map_or}
 use Rattle.std.specs.List.{AllByRecursion, flat_map}
 use Rattle.std.specs.List.Sorted.{IsPermutation, IsStrictlySortedBy}

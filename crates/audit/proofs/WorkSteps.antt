@@ -1,5 +1,5 @@
 -- What an entry takes of the oldest work of a part is held, and the parts to which it sends are there.
-use Rattle.std.proofs.Common.{◌≡◌, ◌≢◌, ◌∙◌, ◌<◌, ◌≤◌, ◌+◌, ◌&&◌, ℕ, zero, suc, Bool, true, false, cond, List, [], ◌∷◌, ◌++◌, length, get_or, drop, refl, sym, ap, subst, arith, sum_by}
+use Rattle.std.proofs.Common.{◌≡◌, ◌≢◌, ◌∙◌, ◌<◌, ◌≤◌, ◌+◌, ◌&&◌, ℕ, zero, suc, Bool, true, false, cond, List, [], ◌∷◌, ◌++◌, length, get_or, refl, sym, ap, subst, arith, sum_by}
 use Rattle.std.specs.Prelude.{All, Contains, IfSome, None, Option, Some, nat_le, nat_lt, ◌==◌}
 use Rattle.std.specs.Option.{option_map_or}
 use Rattle.std.specs.List.Sorted.{IsStrictlySortedBy}
@@ -25,7 +25,7 @@ use Rattle.topology.specs.Shapes.{Shape, injectors_of, parts_of}
 use Rattle.row_parts.specs.Contents.{Contents, delivery_cmp, found_delivery}
 use Rattle.run_history.specs.Cases.{CaseShape}
 use Rattle.run_history.specs.Fits.{is_sent_before}
-use Rattle.run_history.specs.Runs.{Run, cached, followed, row_in, row_of, run_of}
+use Rattle.run_history.specs.Runs.{Run, cached, row_in, row_of, run_of}
 use Rattle.run_history.specs.Watermarks.{least, times_set}
 use Rattle.run_history.proofs.Fitting.{fits-parts}
 use Rattle.run_history.proofs.RunLaws.{IsLegal-push, run_of-push}

@@ -1,7 +1,7 @@
 -- What a report answers, and what it leaves of a node.
-use Rattle.std.proofs.Common.{◌≡◌, ◌∙◌, ℕ, List, refl, sym, ap, subst}
-use Rattle.std.specs.Prelude.{IfErr, IfOk, IfSome, IsSome, Option, Some, None, slice_get}
-use Rattle.run_history.specs.Cases.{CaseShape, intervals_of}
+use Rattle.std.proofs.Common.{◌≡◌, ℕ, List, refl, sym, ap, subst}
+use Rattle.std.specs.Prelude.{IfErr, IfOk, IfSome, IsSome, Option, Some, None}
+use Rattle.run_history.specs.Cases.{CaseShape}
 use Rattle.book.specs.DeskReasons.{HasReason}
 use Rattle.book.specs.Desks.{DeskView, HasLooked}
 use Rattle.book.specs.declared.desk_refusal.DeskRefusal.{DeskRefusal}
@@ -28,11 +28,7 @@ pub marked : (case : CaseShape) (old new : DeskView) (was : NodeView) (interval 
 marked case old new was interval mark None fits at there looked is = absurd cc
 marked case old new was interval mark (Some held) fits at there looked is = record {
   idle = record { looked = looked; kept = refl };
-  own = is.own;
-  of_rows = λ bounds found. is.of_rows bounds
-      (sym (ap (slice_get (intervals_of case.topology)) (fits.held.each interval held at).of_interval) ∙ found);
-  known = is.answer;
-  alone = is.alone;
+  report = subst (λ (n : ℕ). IsReportOf case old new n held mark) (sym (fits.held.each interval held at).of_interval) is;
 }
 
 -- what a report answers that was refused

@@ -2,7 +2,7 @@
 -- Akidau et al., VLDB 2013, section 6.1 for what a worker does on receipt of a record and when it sends what
 -- it made,
 -- section 6.2 for a write under an older sequencer. Own: the other answers.
-use Rattle.std.specs.Prelude.{◌≡◌, ◌≤◌, ◌++◌, ◌∷◌, ◌⊎◌, ◌↔◌, [], ℕ, true, if◌then◌else◌, List, Option, Some, None, IfSome, length, map, slice_get, Contains}
+use Rattle.std.specs.Prelude.{◌≡◌, ◌≤◌, ◌++◌, ◌∷◌, ◌⊎◌, ◌↔◌, [], ℕ, true, if◌then◌else◌, List, Option, Some, None, IfSome, length, map, Contains}
 use Rattle.std.specs.declared.cmp.Ordering.{Ordering}
 use Rattle.std.specs.List.Sorted.{IsStrictlySortedBy}
 use Rattle.std.specs.Option.{is_some, option_map_or, option_to_list}
@@ -13,19 +13,15 @@ use Rattle.mw_types.specs.declared.entry.Entry.{Entry}
 use Rattle.mw_types.specs.declared.entry.Entry.TheVariants as entries
 use Rattle.mw_types.specs.declared.identity.RecordId.{RecordId}
 use Rattle.mw_types.specs.declared.identity.RowName.{RowName}
-use Rattle.key_intervals.specs.declared.bounds.Bounds.{Bounds}
 use Rattle.topology.specs.Shapes.{Shape}
 use Rattle.row_parts.specs.Contents.{is_finished}
-use Rattle.run_history.specs.Cases.{CaseShape, intervals_of}
+use Rattle.run_history.specs.Cases.{CaseShape}
 use Rattle.run_history.specs.Fences.{IsCurrent, IsOvertakenBy, sequencer_of}
 use Rattle.run_history.specs.Made.{deliveries_made, productions_of}
-use Rattle.run_history.specs.Marks.{own_work}
-use Rattle.run_history.specs.Runs.{cached}
 use Rattle.run_history.specs.Watermarks.{least}
-use Rattle.watermark.specs.Marks.{mark_of, marks_of}
+use Rattle.watermark.specs.Marks.{marks_of}
 use Rattle.book.specs.Books.{LeaseView}
 use Rattle.book.specs.DeskReasons.{HasClaimReason, HasReason}
-use Rattle.book.specs.Desking.{IsReported}
 use Rattle.book.specs.Desks.{DeskView, HasLooked, HasMoved}
 use Rattle.book.specs.declared.desk_refusal.DeskRefusal.{DeskRefusal}
 use Rattle.book.specs.declared.desk_refusal.DeskRefusal.TheVariants as refusals
@@ -34,6 +30,7 @@ use Rattle.holdings.specs.Pendings.{IsPendingAmong}
 use Rattle.holdings.specs.declared.pending.Sent.{Sent}
 use Rattle.node.specs.Asking.{MayAskFire, MayAskForget, MayAskPurge, Request, settling}
 use Rattle.outbox.specs.Messages.{messages_from, sent_again}
+use Rattle.outbox.specs.Reports.{IsReportOf}
 use Rattle.node.specs.Workers.{NodeView, Worker, sends, with_lease, with_outgoing, worker_at}
 use Rattle.node.specs.declared.outcome.NodeFault.{NodeFault}
 use Rattle.node.specs.declared.outcome.NodeFault.TheVariants as faults
@@ -274,12 +271,7 @@ pub record FailsForget (shape : Shape) (old new : DeskView) (name : RowName) (ma
 pub record IsMarked (case : CaseShape) (old new : DeskView) (held : HeldView) (was node : NodeView)
     (mark : ℕ) : Type 0 where
   pub idle : IsIdle old new was node
-  pub own : ℕ
-  pub of_rows : (bounds : Bounds) → slice_get (intervals_of case.topology) held.lease.interval ≡ Some bounds →
-      own ≡ own_work case (cached held.rows) bounds
-  pub known : mark ≡ mark_of new.marks held.lease.interval
-  -- a desk that is alone sets this mark and no other
-  pub alone : old.alone ≡ true → IsReported old new held.lease own mark
+  pub report : IsReportOf case old new held.lease.interval held mark
 
 -- what a report under a lease answers
 abbrev pub AnswersReportOf : CaseShape → DeskView → DeskView → HeldView → NodeView → NodeView → Outcome →

@@ -1,5 +1,4 @@
--- What is to be sent, with room that is made before an entry has its number. No public clause cites this
--- module.
+-- What is to be sent, with room that is made before an entry has its number.
 use Rattle.std.specs.Prelude.{ℕ, List}
 use Rattle.mw_types.specs.declared.delivery.Delivery.{Delivery}
 use Rattle.outbox.specs.declared.outgoing.Outgoing.{Outgoing}

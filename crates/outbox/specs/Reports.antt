@@ -1,4 +1,4 @@
--- What a report of the own work of an interval that is held answers. No public clause cites this module.
+-- What a report of the own work of an interval that is held answers.
 use Rattle.std.specs.Prelude.{◌≡◌, ℕ, true, Some, slice_get, ⊤}
 use Rattle.key_intervals.specs.declared.bounds.Bounds.{Bounds}
 use Rattle.run_history.specs.Cases.{CaseShape, intervals_of}

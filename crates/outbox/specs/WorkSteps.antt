@@ -1,4 +1,4 @@
--- The steps by which a node writes what is proposed. No public clause cites this module.
+-- The steps by which a worker writes what is proposed.
 use Rattle.std.specs.Prelude.{◌++◌, ◌∷◌, [], ℕ, Bool, List, Option}
 use Rattle.mw_types.specs.Outcomes.{EffectsView}
 use Rattle.mw_types.specs.declared.delivery.Delivery.{Delivery}

@@ -36,7 +36,7 @@ use Rattle.world.specs.Standing.{FitsOwn}
 use Rattle.world.specs.Stepping.{IsCausedBy, NamesNone, worker_of_step}
 use Rattle.world.specs.WorkerCalls.{IsAlone, answered_in_place}
 use Rattle.world.specs.WorldStates.{WorldState, world_of}
-use Rattle.world.proofs.StandLaws.{worker-at}
+use Rattle.world.proofs.WorldStands.{worker-at}
 use Rattle.world.proofs.deeds.Left.{not-behind}
 
 -- ---- the leases of a worker

@@ -20,7 +20,7 @@ pub mod FireLaws
 pub mod GoLaws
 pub mod ReportLaws
 pub mod CallLaws
-pub mod StandingLaws
+pub mod RecordStands
 pub mod PurgeLoop
 pub mod FireLoop
 pub mod Results
@@ -36,7 +36,7 @@ pub mod CopyLaws
 pub mod OwnerLaws
 pub mod Fencing
 pub mod deeds
-pub mod StandLaws
+pub mod WorldStands
 pub mod WorkerLaws
 pub mod StartedWorlds
 pub mod ActsOnLaws

@@ -21,7 +21,7 @@ use Rattle.world.specs.Standing.{FitsOwn, IsFlying}
 use Rattle.world.specs.WorkerCalls.{HasCalled, IsSending, IsWorldAt, SendsOn, world_with}
 use Rattle.world.specs.WorldStates.{flight_of}
 use Rattle.world.proofs.FlightLaws.{noteless}
-use Rattle.world.proofs.StandLaws.{flying-more}
+use Rattle.world.proofs.WorldStands.{flying-more}
 use Rattle.world.proofs.TakeSteps.{stays-done}
 use Rattle.world.proofs.TurnLaws.{stepped-looked}
 use Rattle.world.proofs.WorkerLaws.{leases-kept}

@@ -25,7 +25,7 @@ use Rattle.world.specs.Stepping.{HasActed, HasFaulted}
 use Rattle.world.specs.WorkerCalls.{HasCalled, HasRested, TakesOn, answered_in_place, world_with}
 use Rattle.world.specs.WorldStates.{WorldState, flight_of, world_of}
 use Rattle.world.proofs.FlightLaws.{flight-at, flight-gone, flying-at, flying-gone, noteless}
-use Rattle.world.proofs.StandLaws.{flying-more, more-grown, worker-at, world-after}
+use Rattle.world.proofs.WorldStands.{flying-more, more-grown, worker-at, world-after}
 use Rattle.world.proofs.WorldSteps.{at-world, changed, rested-at, told-then, world-changed}
 
 -- ---- a message that stays

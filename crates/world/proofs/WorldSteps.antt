@@ -23,7 +23,7 @@ use Rattle.world.specs.Standing.{FitsOwn, IsWorld}
 use Rattle.world.specs.Stepping.{HasActed}
 use Rattle.world.specs.WorkerCalls.{ActsOn, HasCalled, HasGoneOn, HasRested, IsWorldAt, world_with}
 use Rattle.world.specs.WorldStates.{WorldState, flight_of, world_of}
-use Rattle.world.proofs.StandLaws.{flying-more, more-grown, node-at, stepped-grown, worker-at, world-after}
+use Rattle.world.proofs.WorldStands.{flying-more, more-grown, node-at, stepped-grown, worker-at, world-after}
 
 -- a world in which the book, one worker and what is in flight are these
 abbrev pub changed : WorldState → BookView → ℕ → NodeView → List (Option (Message NoNote)) → WorldState

@@ -70,12 +70,12 @@ marked-acts case old new world number was node interval mark held bounds acting 
     let lease = held.lease in
     let deed = report_own case number world lease bounds in
     let here = (acting.fits.held.each interval held at).of_interval in
-    let reported_is = m.alone refl in
-    let own = own-is case old world number was interval m.own held bounds acting at there
-    (m.of_rows bounds (ap (slice_get (intervals_of shape)) here ∙ there)) in
+    let reported_is = m.report.alone refl in
+    let own = own-is case old world number was interval m.report.own held bounds acting at there
+    (m.report.of_rows bounds (ap (slice_get (intervals_of shape)) here ∙ there)) in
     let mark_is : reported shape lease.interval (own_work case (run_known shape world lease) bounds) world.marks ≡ mark =
-    ap (λ o. reported shape lease.interval o world.marks) (sym own) ∙ ap (reported shape lease.interval m.own) acting.marks
-    ∙ ap (λ (c : CaseShape). reported c.topology lease.interval m.own old.marks) (sym acting.of_case) ∙ sym reported_is.answer in
+    ap (λ o. reported shape lease.interval o world.marks) (sym own) ∙ ap (reported shape lease.interval m.report.own) acting.marks
+    ∙ ap (λ (c : CaseShape). reported c.topology lease.interval m.report.own old.marks) (sym acting.of_case) ∙ sym reported_is.answer in
     done-current shape world deed lease refl (subst (IsCurrent lease.interval lease.seq) (sym acting.history) reported_is.last)
     ∙ acted-same deed.answer (outcomes.Marked mark) (changed_by shape world deed)
     (left_world (own_view new) number node world.flight world) (ap outcomes.Marked mark_is)

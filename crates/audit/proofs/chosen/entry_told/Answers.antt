@@ -1,5 +1,4 @@
-use Rattle.std.proofs.Common.{◌≡◌, None, rules}
-use Rattle.trace_lines.specs.Choices.{choice_at}
+use Rattle.std.proofs.Common.{rules}
 use Rattle.audit.proofs.Choosing.{none-told}
 use Rattle.audit.proofs.chosen.entry_told.Goals as goal
 

@@ -1,4 +1,4 @@
-use Rattle.std.proofs.Common.{◌≡◌, ◌∙◌, ◌<◌, ℕ, List, [], arith, get_or, length, subst, sym}
+use Rattle.std.proofs.Common.{◌∙◌, ◌<◌, ℕ, List, [], arith, get_or, subst, sym}
 use Rattle.std.specs.Prelude.{All, Contains}
 use Rattle.list_lemmas.proofs.Told.{on_ok-map}
 use Rattle.mw_types.specs.declared.delivery.Delivery.{Delivery}

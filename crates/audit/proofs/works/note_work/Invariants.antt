@@ -1,4 +1,4 @@
-use Rattle.std.proofs.Common.{◌≡◌, ℕ, ◌+◌, cond, length, sum_by, drop}
+use Rattle.std.proofs.Common.{◌≡◌, ℕ, ◌+◌, length, sum_by, drop}
 use Rattle.mw_types.specs.declared.delivery.Delivery.{Delivery}
 use Rattle.mw_types.specs.declared.TheConstants.{END}
 use Rattle.audit.specs.Works.{sum_at, wait_of}

@@ -5,7 +5,7 @@ use Rattle.world.specs.declared.standing.Standing.TheVariants as standings
 use Rattle.world.proofs.DrainLaws.{forgot-turned, found-part}
 use Rattle.world.proofs.Results.{ok-then}
 use Rattle.world.proofs.LeastWorkLaws.{ack-turned, found-handled, found-next, handle-turned}
-use Rattle.world.proofs.StandingLaws.{stands-finished, stands-full, stands-handling, stands-known, stands-left}
+use Rattle.world.proofs.RecordStands.{stands-finished, stands-full, stands-handling, stands-known, stands-left}
 use Rattle.world.proofs.least_work.work_by.Goals as goal
 
 -- a record that is finished is handled

@@ -1,9 +1,8 @@
 use Rattle.std.proofs.Common.{◌≡◌, subst, refl, length}
-use Rattle.std.specs.Prelude.{None, Option}
+use Rattle.std.specs.Prelude.{None}
 use Rattle.std.specs.BTreeMap.{get}
 use Rattle.std.specs.Ordering.{nat_cmp}
 use Rattle.list_lemmas.proofs.Told.{on_ok-map}
-use Rattle.book.specs.declared.answers.NamedRow.{NamedRow}
 use Rattle.book.specs.Sending.{IsAfterEntry}
 use Rattle.run_history.specs.Made.{row_written}
 use Rattle.audit.specs.declared.kept.Kept.{Kept}

@@ -7,7 +7,7 @@ use Rattle.world.specs.WorkerCalls.{HasGoneOn}
 use Rattle.world.specs.WorldStates.{WorldState, world_of}
 use Rattle.world.proofs.Results.{err-then, ok-then}
 use Rattle.world.proofs.SendWorlds.{sent-at, unsent-at}
-use Rattle.world.proofs.StandLaws.{world-after}
+use Rattle.world.proofs.WorldStands.{world-after}
 use Rattle.world.proofs.WorkerLaws.{err-three}
 use Rattle.world.proofs.WorldSteps.{at-index, changed, fits-index, gone-at, work-moved}
 use Rattle.world.proofs.FullSteps.{step-not-full}
