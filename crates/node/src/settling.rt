@@ -23,7 +23,7 @@ use std::alloc::Global;
 
 impl<N: Seen> Node<N> {
     /// Takes in word that a record was handled: the row that sent it, which this worker has, no longer
-    /// waits for it. The message is used up whatever the answer is.
+    /// waits for it. The message is used up whatever the answer is, also where another has the turn.
     #[tactic(auto, using(crate::proofs::FitLaws::looked_not, crate::proofs::FitLaws::grown_looked, crate::proofs::FitLaws::fails_memory))]
     pub fn take_ack<D: Desk<Note = N>>(
         &mut self,
@@ -66,9 +66,11 @@ impl<N: Seen> Node<N> {
         }
     }
 
-    // Writes an acknowledgement of a record that was handled.
+    /// Does what `take_ack` does with word that was taken out of its message, whose note was met: the row
+    /// that sent the record, which this worker has, no longer waits for it. A caller that is answered
+    /// `Busy` has the word still, and may try again.
     #[tactic(auto, using(crate::proofs::FitLaws::looked_not, crate::proofs::FitLaws::grown_looked, crate::proofs::FitLaws::fails_memory))]
-    fn settle<D: Desk<Note = N>>(
+    pub fn settle<D: Desk<Note = N>>(
         &mut self,
         alloc: Global,
         desk: &mut D,
