@@ -145,6 +145,8 @@ CALL = re.compile(r"^(    |)((?:pub(?:\([^)]*\))? )?)(?:unsafe |const )*fn (\w+)
 
 
 class Call:
+    is_layout = False
+
     def __init__(self, name, path, lines, at, trait=None):
         self.name, self.path, self.line, self.trait = name, path, at + 1, trait
         self.what = sentence(block_above(lines, at, "///"))
@@ -152,10 +154,13 @@ class Call:
 
 
 class Kind:
-    """A public type with what always holds of it, or a member of a trait that every implementation keeps."""
+    """A public type with what always holds of it, or a member of a trait that every implementation keeps.
 
-    def __init__(self, name, path, at, what, text):
-        self.name, self.path, self.line, self.what, self.text = name, path, at + 1, what, text
+    What `Model` says of a type is its layout, which no clause cites but by the type's value."""
+
+    def __init__(self, name, path, at, what, text, is_layout=False):
+        self.name, self.path, self.line, self.what = name, path, at + 1, what
+        self.text, self.is_layout = text, is_layout
 
 
 def own_traits():
@@ -210,7 +215,7 @@ def members(path, lines, at, end, of, name, traits):
     short = re.sub(r"<.*", "", of).split("::")[-1].strip() if of else None
     ghosts = "\n".join(line for line in lines[at:end] if line.startswith("    ghost ") and "ghost use" not in line)
     if ghosts:
-        found.append(Kind(name, path, at, what_holds(lines, at, end, short, name), ghosts))
+        found.append(Kind(name, path, at, what_holds(lines, at, end, short), ghosts, short == "Model"))
     for number in range(at + 1, end):
         one = CALL.match(lines[number])
         if one and one[1] and (one[2] == "pub " if not short else short in traits):
@@ -218,7 +223,7 @@ def members(path, lines, at, end, of, name, traits):
     return found
 
 
-def what_holds(lines, at, end, short, name):
+def what_holds(lines, at, end, short):
     """What is printed of the ghost members of an `impl`: what always holds, what is said, or nothing."""
     always = ghost_of(lines, at, end, "invariant")
     if always:
@@ -382,9 +387,8 @@ def cited(traits):
     found, todo = set(), set()
     for crate in crates():
         files = sources(crate)
-        for call in calls_of(crate, traits):
-            lines = files[call.path]
-            names = imported(lines)
+        for call in (one for one in calls_of(crate, traits) if not one.is_layout):
+            names = imported(files[call.path])
             todo |= {names[word] for word in words_of(call.text) if word in names}
     while todo:
         one = todo.pop()
