@@ -35,7 +35,7 @@ def crates():
 
 
 def sources(crate):
-    """The files of a crate's src/ as their lines, those of its root and of its module list first."""
+    """The files of a crate's src/ with their lines."""
     found = {}
     for at, folders, names in os.walk(f"{ROOT}/crates/{crate}/src"):
         folders.sort()
@@ -47,6 +47,7 @@ def sources(crate):
 
 
 def root_of(crate):
+    """The lines of a crate's root file."""
     files = sources(crate)
     return files.get("src/lib.rt") or files.get("src/main.rt") or []
 
@@ -112,11 +113,7 @@ def contract(lines, at):
 
 def facts_in(text):
     """The facts that a ghost member names."""
-    found = []
-    for word in re.findall(r"[A-Za-z_]\w*", text):
-        if re.match(r"(Is|Are|Has|Have|Knows|Keeps|May|Fits|All$)[A-Z]?\w*$", word) and word != "All":
-            found += [word] if word not in found else []
-    return found
+    return list(dict.fromkeys(re.findall(r"\b(?:Is|Are|Has|Knows|Keeps|May)[A-Z]\w*", text)))
 
 
 def ghost_of(lines, at, end, name):
@@ -164,6 +161,7 @@ class Kind:
 
 
 def own_traits():
+    """The names of the public traits of all crates."""
     found = set()
     for crate in crates():
         for lines in sources(crate).values():
@@ -179,6 +177,7 @@ def is_test(lines, at):
 
 
 def calls_of(crate, traits):
+    """The public calls of a crate and what always holds of its public types, file by file."""
     files = sources(crate)
     out = exported(root_of(crate))
     names = {name for _, name in out}
@@ -237,6 +236,7 @@ def what_holds(lines, at, end, short):
 
 
 def trait_members(path, lines, at, end, name):
+    """The calls of a public trait, and its ghost members that have a `///`."""
     found = []
     for number in range(at + 1, end):
         one = CALL.match(lines[number])
@@ -292,6 +292,7 @@ def place_of(path, olds):
 
 
 def said(clauses, kind):
+    """The names of the clauses of one kind, as text."""
     named = [f"`{name}`" for which, name in clauses if which == kind and name]
     bare = sum(1 for which, name in clauses if which == kind and not name)
     if bare:
@@ -308,9 +309,9 @@ def print_crate(crate, traits):
     for path in sorted({call.path for call in calls if not isinstance(call, Kind) or call.what} | set(edits)):
         print(f"\n### `crates/{crate}/{path}`\n")
         plain = {}
-        for call in (one for one in calls if one.path == path):
+        for call in (one for one in calls if one.path == path and not (isinstance(one, Kind) and not one.what)):
             if isinstance(call, Kind):
-                print(f"- `{call.name}`, line {call.line}: {call.what}" if call.what else "", end="\n" if call.what else "")
+                print(f"- `{call.name}`, line {call.line}: {call.what}")
             elif call.trait and not call.clauses:
                 plain.setdefault((call.name.split("::")[0], call.trait), []).append(call)
             else:
@@ -371,12 +372,13 @@ def imported(lines):
 
 
 def words_of(text):
+    """The words of a text of definitions or clauses, members of records left out."""
     return set(re.findall(r"(?<![\w.])[A-Za-z_]\w*", re.sub(r"--.*", "", text)))
 
 
 def cited(traits):
     """The definitions that a clause of a public call cites, by itself or through another definition."""
-    known, uses = {}, {}
+    known = {}
     for crate in crates():
         for module, lines in modules(crate):
             names = imported(lines)
