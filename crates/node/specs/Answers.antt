@@ -1,7 +1,6 @@
 -- What the calls of a node answer, and what they leave of it. Each is said of the worker that the node is.
 -- Akidau et al., VLDB 2013, section 6.1 for what a worker does on receipt of a record and when it sends what
--- it made,
--- section 6.2 for a write under an older sequencer. Own: the other answers.
+-- it made, section 6.2 for a write under an older sequencer. Own: the other answers.
 use Rattle.std.specs.Prelude.{◌≡◌, ◌≤◌, ◌++◌, ◌∷◌, ◌⊎◌, ◌↔◌, [], ℕ, true, if◌then◌else◌, List, Option, Some, None, IfSome, length, map, Contains}
 use Rattle.std.specs.declared.cmp.Ordering.{Ordering}
 use Rattle.std.specs.List.Sorted.{IsStrictlySortedBy}

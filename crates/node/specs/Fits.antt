@@ -1,6 +1,5 @@
 -- When a node fits what its desk knows: what it holds, what it has prepared and what it has to send are right
--- by what
--- the desk has seen. Own.
+-- by what the desk has seen. Own.
 use Rattle.std.specs.Prelude.{◌≡◌, List, Option, Some, IfSome, All}
 use Rattle.mw_types.specs.Outcomes.{EffectsView}
 use Rattle.mw_types.specs.declared.delivery.Delivery.{Delivery}

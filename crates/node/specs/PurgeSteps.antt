@@ -1,4 +1,4 @@
--- The steps of a purge. No public clause cites this module.
+-- The steps of a purge. Public clauses cite `AreRowsWithin` alone, through `AreAllWithin`.
 use Rattle.std.specs.Prelude.{◌≡◌, ◌<◌, ℕ, Option, Some, None, IsSome, IfSome}
 use Rattle.mw_types.specs.declared.identity.RowName.{RowName}
 use Rattle.topology.specs.Shapes.{Shape, parts_of}

@@ -31,7 +31,9 @@ use std::alloc::Global;
 
 impl<N: Seen> Node<N> {
     /// Fires the next timer of a part, by time, tag and key, where it is due by the marks that the
-    /// desk knows.
+    /// desk knows. It answers `Nothing` exactly where a work is prepared, no timer of the part is
+    /// set in the rows that it has, or the first one's time is above the least known mark of the
+    /// part.
     #[tactic(auto, using(crate::proofs::FitLaws::looked_not, crate::proofs::FitLaws::grown_looked))]
     pub fn fire<D: Desk<Note = N>, C: Computation>(
         &mut self,

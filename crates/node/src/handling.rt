@@ -10,7 +10,8 @@ use row_parts::Row;
 use run_history::Case;
 use std::alloc::Global;
 
-/// What a computation leaves of a record that goes to a row, for a caller that follows a history.
+/// What a computation leaves of a record that goes to a row, for a caller that has the row and no
+/// worker.
 pub fn handled<C: Computation>(
     alloc: Global,
     work: &C,
@@ -36,7 +37,7 @@ pub fn handled<C: Computation>(
     }
 }
 
-/// What a computation leaves of a timer of a row, for a caller that follows a history.
+/// What a computation leaves of a timer of a row, for a caller that has the row and no worker.
 pub fn fired<C: Computation>(
     alloc: Global,
     work: &C,

@@ -27,7 +27,8 @@ use std::alloc::Global;
 use topology::Topology;
 
 impl<N: Seen> Node<N> {
-    /// Injects the next line of an injector that it has.
+    /// Injects the next line of an injector that it has. It answers `Nothing` exactly where it does
+    /// not have the injector's row, or no line is left.
     #[tactic(auto, using(crate::proofs::FitLaws::looked_not, crate::proofs::FitLaws::grown_looked))]
     pub fn inject<D: Desk<Note = N>>(
         &mut self,

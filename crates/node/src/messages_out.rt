@@ -16,7 +16,8 @@ use outbox::Outgoing;
 use std::alloc::Global;
 
 impl<N: Seen> Node<N> {
-    /// Takes the first of what it has to send, with a note of what its desk has seen.
+    /// Takes the first of what it has to send, where there is any, with a note of what its desk has
+    /// seen.
     pub fn next_message<D: Desk<Note = N>>(&mut self, desk: &mut D) -> Option<Message<N>>
         requires fits { Fits (D.view desk.old).case (D.view desk.old) self.old }
 
@@ -50,7 +51,8 @@ impl<N: Seen> Node<N> {
     }
 
     /// The first of what it has to send once more, where that is a record, with a note of its own: for one
-    /// who sends it twice. The worker still has it to send.
+    /// who sends it twice. The worker still has it to send. None comes where it has nothing to
+    /// send, or first of all word that a record was handled.
     #[tactic(auto, using(crate::proofs::FitLaws::looked_not))]
     pub fn first_again<D: Desk<Note = N>>(
         &self,

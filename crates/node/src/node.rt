@@ -15,6 +15,10 @@ use std::alloc::Global;
 use std::marker::{Model, PhantomData};
 
 /// One worker.
+///
+/// Each call with a desk asks that the worker fits the desk, and leaves one that does. A call that
+/// fails leaves the worker's leases, what it has prepared and what it has to send as they were.
+/// Memory may run out in each call that can fail, whatever is said of its answers.
 #[derive(Drop)]
 pub struct Node<N: Seen> {
     pub(crate) number: u32,
@@ -80,8 +84,8 @@ impl<N: Seen> Node<N> {
         self.prepared.is_some()
     }
 
-    /// Forgets what it has to send: one that takes in each record from the rows that it holds, as a
-    /// drain does, sends none.
+    /// Forgets what it has to send, as a plan may ask (`lose`): its records stay pending, and are
+    /// sent again by a sweep.
     pub fn drop_messages(&mut self)
         ensures gone { self.new ≡ record self.old { outbox = [] } }
         ensures fits { (case : CaseShape) (desk : DeskView) → Fits case desk self.old →

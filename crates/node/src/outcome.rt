@@ -3,7 +3,7 @@ ghost use Rattle.std.specs.Prelude.{◌≡◌};
 
 use mw_types::{Bytes, NoMemory, RowName};
 
-/// What a call of a node came to.
+/// What a call of a node came to, or a step of a script.
 #[derive(Drop)]
 pub enum Outcome {
     /// The interval was claimed.

@@ -19,7 +19,8 @@ use std::alloc::Global;
 
 impl<N: Seen> Node<N> {
     /// Has one row forget the ids that no sender may send again, where it has so many and one at
-    /// least.
+    /// least. It answers `Nothing` exactly where a work is prepared, the worker has no lease of the
+    /// row, the row has too few ids, or its floor is not below the known one.
     pub fn purge_row<D: Desk<Note = N>>(
         &mut self,
         alloc: Global,
@@ -57,7 +58,8 @@ impl<N: Seen> Node<N> {
     }
 
     /// Has the first row of an interval, by key, that has so many ids to forget, and one at least,
-    /// forget them.
+    /// forget them. It answers `Nothing` exactly where a work is prepared, the worker has no lease
+    /// of the interval, or no row there has so many ids and a floor below the known one.
     pub fn purge<D: Desk<Note = N>>(
         &mut self,
         alloc: Global,

@@ -30,6 +30,11 @@ use std::alloc::Global;
 impl<N: Seen> Node<N> {
     /// Takes in a record, whose row it has, and handles it; a record that is finished there is
     /// acknowledged again. The message is used up whatever the answer is.
+    ///
+    /// It answers `Nothing` exactly where a work is prepared, else `NotMine` exactly where it has
+    /// no lease of the row, and else `Duplicate` exactly where the record is finished in the row.
+    /// Where the note of the message tells nothing, a desk that is alone has to have seen that what
+    /// the message says is so, if a contract can see the keeper's rows.
     pub fn prepare<D: Desk<Note = N>, C: Computation>(
         &mut self,
         alloc: Global,

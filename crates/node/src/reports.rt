@@ -15,7 +15,8 @@ use run_history::Case;
 use std::alloc::Global;
 
 impl<N: Seen> Node<N> {
-    /// Reports the own work of an interval that it has, which may raise the interval's mark.
+    /// Reports the own work of an interval that it has, which may raise the interval's mark. It
+    /// answers `Nothing` exactly where it has no lease of the interval.
     #[tactic(auto, using(crate::proofs::FitLaws::looked_not, crate::proofs::FitLaws::grown_looked))]
     pub fn report<D: Desk<Note = N>>(
         &mut self,

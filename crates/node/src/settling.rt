@@ -24,6 +24,9 @@ use std::alloc::Global;
 impl<N: Seen> Node<N> {
     /// Takes in word that a record was handled: the row that sent it, which this worker has, no longer
     /// waits for it. The message is used up whatever the answer is, also where another has the turn.
+    ///
+    /// It answers `NotMine` exactly where it has no lease of the row, and else `Nothing` exactly
+    /// where the id is not pending there.
     #[tactic(auto, using(crate::proofs::FitLaws::looked_not, crate::proofs::FitLaws::grown_looked, crate::proofs::FitLaws::fails_memory))]
     pub fn take_ack<D: Desk<Note = N>>(
         &mut self,

@@ -20,7 +20,8 @@ use std::cmp::Ordering;
 
 impl<N: Seen> Node<N> {
     /// Puts all that is pending in the rows that it has into the outbox again, in the order of the
-    /// records' ids.
+    /// records' ids: each once, and nothing else. Where a contract can see the keeper's rows no id
+    /// stands twice.
     pub fn sweep<D: Desk<Note = N>>(
         &mut self,
         alloc: Global,

@@ -5,7 +5,8 @@ use crate::node::Node;
 use book::Seen;
 
 impl<N: Seen> Node<N> {
-    /// How many messages it has to send, for a caller that makes room for all of them first.
+    /// How many messages it has to send, for a caller that makes room for all of them first, or
+    /// that sends those and no later ones.
     pub fn unsent(&self) -> usize
         ensures unsent { result ≡ length self.now.outbox }
     {

@@ -16,7 +16,7 @@ use std::alloc::Global;
 
 impl<N: Seen> Node<N> {
     /// Writes what is prepared. Then word goes to the sender that its record was handled, and after that
-    /// goes what the handler produced.
+    /// goes what the handler produced. It answers `Nothing` exactly where nothing is prepared.
     #[tactic(auto, using(crate::proofs::FitLaws::looked_not, crate::proofs::FitLaws::grown_looked, crate::proofs::FitLaws::fails_memory))]
     pub fn commit<D: Desk<Note = N>>(
         &mut self,
