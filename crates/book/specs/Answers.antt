@@ -59,8 +59,8 @@ abbrev pub IsFullWhere : {T : Type 0} → ℕ → List Entry → LeaseView → R
 IsFullWhere limit history lease result = IsErrOf result refusals.HistoryFull
     ↔ (length history ≡ limit) × IsCurrent lease.interval lease.seq history
 
--- no call that uses the keeper changes the case, the limit, the marks, or whether a contract can
--- see the keeper's rows
+-- the case, the limit and the marks stay, and so does whether a contract can see the keeper's rows:
+-- no call that uses the keeper changes them
 pub record IsSameBook (old new : BookView) : Type 0 where
   pub case : new.case ≡ old.case
   pub limit : new.limit ≡ old.limit

@@ -307,7 +307,7 @@ fn sending(
     })
 }
 
-// What it changes that an id is settled.
+// The change by which a row no longer waits for an id.
 pub(crate) fn settling(
     alloc: Global,
     lease: &Lease,
@@ -334,7 +334,7 @@ pub(crate) fn settling(
     })
 }
 
-// What it changes that a row forgets the ids below a floor.
+// The change by which a row forgets the ids below a floor.
 pub(crate) fn purging(
     alloc: Global,
     lease: &Lease,

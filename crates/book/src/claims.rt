@@ -30,6 +30,10 @@ use std::alloc::Global;
 
 impl<'a, K: Keeper> Book<'a, K> {
     /// A worker takes an interval, which makes every earlier lease of it stale.
+    ///
+    /// The rows that it gets fit their names, lie in the interval and ascend by name. Where a
+    /// contract can see the keeper's rows they are those of the history that lie there, and none is
+    /// damaged.
     pub fn claim(
         &mut self,
         alloc: Global,

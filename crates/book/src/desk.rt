@@ -31,6 +31,9 @@ pub trait Seen: Drop {
 
 /// What a worker may ask of a history. Each call sees at least what was seen before, and appends at
 /// most one entry of its own.
+///
+/// What others appended meanwhile carries no sequencer of a lease that the desk may use, and such a
+/// lease may still be used. No known mark falls.
 pub trait Desk: Drop {
     /// What it gives of what it has seen.
     type Note: Seen;
@@ -260,7 +263,8 @@ pub trait Desk: Drop {
         ensures loan { loan self.new ≡ loan self.old }
         ensures home { home self.new ≡ home self.old };
 
-    /// What the desk has seen, for a message to carry.
+    /// What the desk has seen, for a message to carry. The note tells it where a contract can see
+    /// the keeper's rows, unless the desk is alone.
     fn note(&mut self) -> Self::Note
         ensures note { IsNoteOf (view self.new) (Self.Note.sight result) }
         ensures tells { TellsUnlessAlone (view self.new) (Self.Note.sight result) }

@@ -70,7 +70,7 @@ impl<'a, K: Keeper> Book<'a, K> {
         }
     }
 
-    /// Does the same on a row that is changed where it lies, and answers the commit number.
+    /// Does what `write` does on a row that is changed where it lies. Answers the commit number.
     pub fn write_in(
         &mut self,
         alloc: Global,
@@ -151,7 +151,7 @@ impl<'a, K: Keeper> Book<'a, K> {
         }
     }
 
-    /// Does the same on a row that is changed where it lies, and answers the commit number.
+    /// Does what `settle` does on a row that is changed where it lies. Answers the commit number.
     pub fn settle_in(
         &mut self,
         alloc: Global,
@@ -233,7 +233,7 @@ impl<'a, K: Keeper> Book<'a, K> {
         }
     }
 
-    /// Does the same on a row that is changed where it lies, and answers the commit number.
+    /// Does what `purge` does on a row that is changed where it lies. Answers the commit number.
     pub fn purge_in(
         &mut self,
         alloc: Global,
