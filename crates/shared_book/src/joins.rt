@@ -33,7 +33,8 @@ impl<'a, K: Keeper> Shared<'a, K> {
     }
 
     /// The seat comes to see at least what the note has, and has its own numbers, entries, leases
-    /// and faults as before. It holds no turn.
+    /// and faults as before. What it comes to see was not written under a lease of its own. It
+    /// holds no turn.
     pub fn meet(&self, seat: &mut Seat<K>, note: Note<K>)
         requires here { IsHere self.now.table.shared.table_id self.now.case.now seat.old.place }
         requires idle { IsIdle seat.old.place.me }
@@ -53,8 +54,9 @@ impl<'a, K: Keeper> Shared<'a, K> {
         meet_at(self, seat, note);
     }
 
-    /// The seat takes in another of a caller, with its numbers, leases and entries. Neither holds a
-    /// turn.
+    /// The seat takes in another of a caller, with its numbers, leases and entries. Of each
+    /// interval it then has settled the newer lease of the two, and of each word it has loaded the
+    /// greater value. Neither holds a turn.
     pub fn join(&self, seat: &mut Seat<K>, other: Seat<K>)
         requires here { IsHere self.now.table.shared.table_id self.now.case.now seat.old.place }
         requires idle { IsIdle seat.old.place.me }
@@ -90,7 +92,9 @@ impl<'a, K: Keeper> Shared<'a, K> {
     }
 
     /// The book comes back from the seat that has all numbers, and no turn: each entry since the
-    /// start is the seat's own. Its marks are those of the words, which the seat loads first.
+    /// start is the seat's own. Its marks are those of the words, which the seat loads first: none
+    /// is below what the seat had loaded. Where the seat saw the keeper fail, that has failed more
+    /// often than at the start.
     pub fn close(self, seat: Seat<K>) -> Book<'a, K>
         requires here { IsHere self.table.shared.table_id self.case.now seat.place }
         requires idle { IsIdle seat.place.me }

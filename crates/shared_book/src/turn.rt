@@ -33,6 +33,9 @@ pub struct Busy {
 }
 
 /// The right to append, which one seat has at a time. It must be released.
+///
+/// An entry under a lease is accepted only where the lease is the last of its interval. Where a
+/// contract can see the keeper's rows, the row that was handed in is then the row of the history.
 pub struct Turn<'s, 'a, K: Keeper> {
     pub(crate) shared: &'s Shared<'a, K>,
     pub(crate) seat: &'s mut Seat<K>,
@@ -67,7 +70,8 @@ impl<K: Keeper> Seat<K> {
 
 impl<'s, 'a, K: Keeper> Turn<'s, 'a, K> {
     /// A worker takes an interval, which makes every earlier lease of it stale, whichever seat has
-    /// it. The lease is the seat's.
+    /// it. The lease is the seat's, and may raise no mark before it is settled, as the turn is
+    /// given back.
     pub fn claim(
         &mut self,
         alloc: Global,
