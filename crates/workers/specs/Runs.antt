@@ -76,6 +76,7 @@ pub record HasRunSome (workers : ℕ) (case : CaseShape) (view : View) : Type 0 
 pub record HasEndCause (view : View) (why : NodeFault) : Type 0 where
   pub keeper : why ≡ faults.KeeperFault → 0 < view.faults
   pub full : why ≡ faults.HistoryFull → view.basis.limit ≤ length view.front
+  -- so many entries were seen when the row was read
   pub count : ℕ
   pub seen : count ≤ length view.front
   pub damaged : IsDamageAt view.basis.case view.basis.told count (refusal_of why)

@@ -32,6 +32,8 @@ pub struct Full<N: Seen> {
 
 impl<N: Seen, J: Office> Mailbox<N, J> {
     /// A mailbox with room for so many messages, and its passes, each with its place in the list.
+    /// Where there is one pass it is alone: what it has put and taken tells how many messages are
+    /// left.
     pub fn new(
         alloc: Global,
         capacity: u32,

@@ -47,6 +47,7 @@ use std::thread::Threads;
 /// order of its lines: what a worker held that crashes, or that stalled in the round before, is claimed by the next
 /// worker. Messages go through one mailbox for each interval. The first fault ends the rounds, and what was appended
 /// stands. What is in mailboxes at the end is lost, and so is what a worker has not written or sent.
+/// At most 61 entries are appended, 61 more for each action and 6,000 a round for each worker.
 ///
 /// Where no thread can be made the workers do their turns one after another. No clause says how many threads there
 /// are, nor which messages go through mailboxes, nor what an action does beside claims.
