@@ -17,7 +17,9 @@ ghost use Rattle.world.specs.Worlds.{World};
 
 /// A copy of a record is a duplicate exactly where the record was handled in what its owner knows.
 ///
-/// It may come at any time, after the record's acknowledgement and a purge too.
+/// It may come at any time, after the record's acknowledgement and a purge too. A record that was
+/// not handled waits there, or was made after all that the owner knows, whose lease is overtaken
+/// then.
 pub fn copies_are_known()
     ensures known { (case : CaseShape) (history : List Entry) (interval seq : ℕ) (d : Delivery) →
         IsLegal case history → found_delivery d.id (run_of case.topology history).made ≡ Some d →

@@ -35,7 +35,7 @@ pub fn ended_drains_have_no_next_entry()
         HasEnded case from history → IsNextEntry case from history entry → ⊥ }
 {}
 
-/// A drain that has not ended has a next entry.
+/// A drain that has not ended has a next entry. That this entry is a legal one is not said.
 pub fn drains_go_on_until_they_end()
     ensures next { (case : CaseShape) (from : ℕ) (history : List Entry) → from ≤ length history →
         HasEnded case from history ⊎ ((entry : Entry) × IsNextEntry case from history entry) }

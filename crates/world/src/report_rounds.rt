@@ -32,7 +32,8 @@ pub fn a_round_leaves_the_greatest_safe_marks()
 {}
 
 /// After one round of reports over safe marks, the least mark of a computation's intervals is
-/// exactly its low watermark, where the history is legal and nothing is pending.
+/// exactly its low watermark, where the history is legal and nothing is pending. Of an injector it
+/// says nothing: nothing feeds that, so its low watermark is the end, whatever its file states.
 pub fn a_round_finds_low_watermarks()
     ensures low { (case : CaseShape) (history : List Entry) (marks : List ℕ) (part : ℕ) →
         IsRunnable case → IsLegal case history → let run = run_of case.topology history in

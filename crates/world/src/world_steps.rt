@@ -41,7 +41,9 @@ impl<'a, K: Keeper, C: Computation + Drop> World<'a, K, C> {
         ensures faults { self.old.book.faults ≤ self.new.book.faults }
         ensures grown { AppendsAtMostOne (world_of self.old) (world_of self.new) }
 
-        // Over every keeper an answer that names a number has its cause.
+        // Over every keeper an answer that names a number has its cause: `Committed` and `Claimed`
+        // name the entry that was appended, `Stale` a claim that has overtaken a lease of the
+        // worker's. `Busy` never comes.
         ensures cause { IfOk result (HasCauseOf step.now self.old self.new) }
 
         // A fault changes nothing, but that a message which was taken is gone.
@@ -66,7 +68,7 @@ impl<'a, K: Keeper, C: Computation + Drop> World<'a, K, C> {
         result
     }
 
-    // Does one step.
+    // Does a step, which is one of a worker without a message, or one of messages.
     fn step_once(&mut self, alloc: Global, step: &Step) -> Result<Outcome, NodeFault>
         requires step { IsStep self.old.book.case.topology step.now }
         ensures acted { IfOk result (HasActed step.now self.old self.new) }
