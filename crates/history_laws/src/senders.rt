@@ -27,7 +27,8 @@ pub fn senders_keep_what_they_made()
         found_delivery id (row_of shape run other).pending ≡ Some e → one ≡ other }
 {}
 
-/// After a legal history a record that was made is pending exactly where it is not acknowledged.
+/// After a legal history a record that was made is pending exactly where it is not acknowledged,
+/// and there are as many of the one as of the other.
 pub fn pending_is_unacknowledged()
     ensures pending { (case : CaseShape) (history : List Entry) → IsLegal case history →
         let run = run_of case.topology history in

@@ -19,7 +19,8 @@ pub fn seen_writes_are_lawful()
         IsLegalAndFenced case ((front ++ rest) ++ entry ∷ []) }
 {}
 
-/// A worker may claim an interval at any time.
+/// A claim of an interval that is there, by a worker that is there, keeps a history legal and
+/// fenced.
 pub fn claims_are_lawful()
     ensures lawful { (case : CaseShape) (history : List Entry) (worker interval : ℕ) →
         IsLegalAndFenced case history → MayClaim case worker interval →

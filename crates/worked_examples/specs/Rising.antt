@@ -1,5 +1,5 @@
 -- The example of two lines and a watermark between them, worked by hand: the first line is worked
--- off while the marks rise, and its row is purged. The book's tests cite it.
+-- off while the marks rise, and its row is purged. Tests of books cite it.
 use Rattle.std.specs.Prelude.{ℕ, List, [], ◌∷◌, pos, false, None, take}
 use Rattle.mw_types.specs.declared.delivery.Delivery.{Delivery}
 use Rattle.mw_types.specs.declared.state.State.TheVariants.{Injector, Count}

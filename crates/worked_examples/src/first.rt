@@ -16,6 +16,6 @@ pub fn first_example()
     ensures low_at_first { first_low 6 ≡ 60 }
     ensures low_at_second { first_low 7 ≡ 120 }
 
-    // A record is handled once.
+    // A history in which a record is handled twice is not legal.
     ensures handled_twice { IsLegal first_case first_handled_twice → ⊥ }
 {}

@@ -66,7 +66,8 @@ pub fn wide_example_has_its_intervals()
     ensures known_elsewhere { known 4 4 wide_claimed_again ≡ wide_claimed_again }
 {}
 
-/// Thirteen wrong entries are refused where they would come.
+/// Of thirteen wrong entries twelve may not follow where they would come, and one is not fenced
+/// there.
 pub fn wide_example_refuses()
     ensures acknowledged_before_handled { MayNotFollow 6 (Ack 0 injector_row (id_of 5)) }
     ensures acknowledged_twice { MayNotFollow 17 (Ack 0 injector_row (id_of 5)) }
