@@ -84,7 +84,7 @@ impl Outlet {
 
     /// Writes the live lines of the entries from its place on, and answers its new place, the
     /// history's length. After a fault the lines of all entries before its place are out, and the
-    /// next pump begins with an LF.
+    /// next pump that writes a line begins with an LF. It can be pumped again from this history.
     pub fn pump<O: Sink>(
         &mut self,
         alloc: Global,
