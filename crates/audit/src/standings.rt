@@ -41,7 +41,7 @@ impl<'a> Model for Standing<'a> {
 }
 
 impl<'a> Standing<'a> {
-    /// Of a case in which nothing has happened yet.
+    /// The standing of a case in which nothing has happened yet.
     pub fn new(alloc: Global, case: &'a Case) -> Result<Standing<'a>, NoMemory>
         ensures case { IfOk result (λ standing. standing.case ≡ case.now) }
         ensures empty { IfOk result (λ standing. standing.history ≡ []) }
@@ -106,8 +106,8 @@ impl<'a> Standing<'a> {
         history
     }
 
-    /// The same with this entry too, which may come next. Where there is no memory nothing is left of
-    /// it, so that no step has to be taken back.
+    /// The standing with this entry too, which may come next. Where there is no memory nothing is
+    /// left of it, so that no step has to be taken back.
     pub fn push(self, alloc: Global, entry: Entry) -> Result<Standing<'a>, NoMemory>
         requires next { MayCome self.case self.history entry }
         requires few { length self.history < 2 ^ 32 }

@@ -159,7 +159,7 @@ fn refusal_of(kind: ErrorKind) -> WordsRefusal
     }
 }
 
-// What texts say of which none begins with one `-` alone before the first `--`.
+// The line that these texts are. None of them before the first `--` begins with one `-` alone.
 fn line_of_texts(alloc: Global, texts: &[&str]) -> Result<Line, WordsRefusal>
     requires long { has_short (map (λ text. text.now) texts.now) ≡ false }
 

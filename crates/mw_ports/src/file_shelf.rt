@@ -11,7 +11,8 @@ use std::fs;
 use std::marker::Model;
 use std::rt::Files;
 
-/// The files that a runtime has, by their paths.
+/// The files that a runtime has, by their paths. All of a read but the opening is
+/// `Tally::read_opened`, whose clauses say of any reader what is given, and when a file is missing.
 #[derive(Drop)]
 pub struct FileShelf<'a, R: Files> {
     rt: &'a R,

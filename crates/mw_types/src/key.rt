@@ -32,7 +32,7 @@ pub type KeyList = Seq<Key>;
 pub const KEY_MAX: usize = 256;
 
 impl Key {
-    /// The key with this text, which must have 1 to 256 bytes.
+    /// The key with this text. `BadLength` comes exactly where the text has not 1 to 256 bytes.
     pub fn of(alloc: Global, text: &str) -> Result<Key, KeyRefusal>
         ensures held { IfOk result (λ key. key ≡ text.now) }
         ensures within { IfOk result (λ key. (0 < length key) × (length key ≤ 256)) }
