@@ -287,7 +287,7 @@ def wrong_bodies(cell: str) -> Iterator[str]:
     told = [("wrong", it) for it in QUOTED.findall(slanted)]
     told += [("must-fail", it) for it in QUOTED.findall(re.sub(r"\*[^*]*\*", "", plain))]
     for folder, name in told:
-        if not glob.glob(f"{ROOT}/crates/*/{folder}/{name}.edit"):
+        if re.fullmatch(r"\w+", name) and not glob.glob(f"{ROOT}/crates/*/{folder}/{name}.edit"):
             yield f"no wrong body {folder}/{name}.edit"
 
 
