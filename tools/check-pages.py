@@ -7,6 +7,7 @@ Where each name is there, it says nothing and its status is 0. It judges
 - paths in backquotes that begin with a folder of the repository or end as its files do;
 - calls, `crate::call` and `crate::Type::call`, by the sources of the crate;
 - clauses, where a table or a sentence says of which call: `ensures NAME {` and `requires NAME {` of it;
+- facts, such as `IsLegal` and `HasWritten`, by all that the crates' files define or name;
 - wrong bodies in a table's column of them, and in italics those that lie in `wrong/`;
 - how many lines a file, a type's file or a crate's sources have, where the number stands beside its name. Any of
   four counts is right: all lines, those that are not empty, of these those that are no comment, and of these those
@@ -39,6 +40,7 @@ BLOCK = re.compile(r"^(?:pub(?:\([a-z]+\))? )?(impl|trait)\b(.*)")
 THING = re.compile(r"^\s*(?:pub(?:\([a-z]+\))? )?(?:struct|enum|trait|type|const|static|mod|macro) (\w+)", re.M)
 USED = re.compile(r"^\s*pub use ([^;]+);", re.M)
 VARIANT = re.compile(r"^    (\w+)(?: \{|\(|,| =)", re.M)
+FACT = re.compile(r"\b(?:Is|Has|Are|May|Holds|Keeps|Was)[A-Z]\w*")
 LINES_OF = re.compile(r"(?:\b|^)(\d[\d,]*) lines (?:of|in) `([^`]+)`")
 LINES_IN = re.compile(r"`([^`]+)` ?(?:\(|, |has |of )(\d[\d,]*) lines")
 
@@ -301,8 +303,22 @@ def wrong_row(header: list[str], cells: list[str], above: str) -> Iterator[str]:
     row = dict(zip(header, cells))
     if "Call" in row and "Clause" in row:
         yield from wrong_clauses(row["Call"] or above, row["Clause"])
+    for head, cell in row.items():
+        if told := re.fullmatch(r"Clause of `(\w+)`", head):
+            owners = [it for it in crates() if told[1] in crate(it).functions]
+            yield from wrong_clauses(", ".join(f"`{it}::{told[1]}`" for it in owners), cell)
     if "Wrong body" in row:
         yield from wrong_bodies(row["Wrong body"])
+
+
+@functools.cache
+def facts() -> frozenset[str]:
+    """The names of facts that stand in the crates' definitions, contracts and proofs."""
+    found: set[str] = set()
+    for part in ("src", "specs", "proofs"):
+        for path in glob.glob(f"{ROOT}/crates/*/{part}/**/*.*", recursive=True):
+            found.update(FACT.findall(text_of(path)))
+    return frozenset(found)
 
 
 # `clause` of `call`, and the clause `name` of `call`.
@@ -317,6 +333,7 @@ def wrong_words(page: str, line: str) -> Iterator[str]:
         if told not in OTHERS:
             yield wrong_path(page, told)
             yield wrong_call(told) if CALL.fullmatch(told) else ""
+            yield f"no fact {told}" if FACT.fullmatch(told) and told not in facts() else ""
     for names, call in PROSE.findall(line):
         known = clauses_of(call)
         if known is not None:

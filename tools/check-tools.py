@@ -195,9 +195,11 @@ class Pages(Tried):
         "`tools/measure.py PROGRAM ..`": "`tools/measures.py PROGRAM ..`",
         "`book::Book::claim`": "`book::Book::claims`",
         "`mw_ports::write_all`": "`mw_ports::write_most`",
+        "`IsLegal`": "`IsLegalised`",
         "`book::DeskRefusal::Busy`": "`book::DeskRefusal::Busier`",
         "The clause `full` of `book::Book::claim`.": "The clause `fuller` of `book::Book::claim`.",
         "|Call|Clause|\n|-|-|\n|`book::Book::claim`|`full`|": "|Call|Clause|\n|-|-|\n|`book::Book::claim`|`fuller`|",
+        "|Clause of `write_all`|\n|-|\n|`whole`|": "|Clause of `write_all`|\n|-|\n|`full`|",
         "|Wrong body|\n|-|\n|`always_read_fault`|": "|Wrong body|\n|-|\n|*`always_read_fault`*|",
     }
 
