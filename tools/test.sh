@@ -23,19 +23,13 @@ count() {
     echo "$([ "$how" = 0 ] && echo passed || echo FAILED) after $SECONDS s: $*"
 }
 
-# Runs the tests of a crate, and puts the status where it is awaited.
-test_crate() {
-    (cd "crates/$1" && rt try --test --seconds 3600 > "$room/$1.said" 2>&1)
-    echo "$?" > "$room/$1.status"
-}
-
-# The tests of a crate as its run told them; where it has no result, what it said last.
+# The tests of a crate as their run told them, which ended with this status; where it failed, what it said last.
 tell_tests() {
     local told
-    told="$(grep '^test result: ' "$room/$1.said")"
-    [ "$(cat "$room/$1.status")" = 0 ] && [ -n "$told" ]
+    told="$(grep '^test result: ' "$room/$1")"
+    [ "$2" = 0 ] && [ -n "$told" ]
     count "$?" "tests of $1: ${told#test result: ok. }"
-    [ "$(cat "$room/$1.status")" = 0 ] || { grep -v ' \.\.\. ok$' "$room/$1.said" | tail -n 40; }
+    [ "$2" = 0 ] || grep -v ' \.\.\. ok$' "$room/$1" | tail -n 40
 }
 
 # Runs a program with what lies beside its source, and compares its text and its status.
@@ -54,14 +48,20 @@ try_program() {
 echo "NOTHING IS PROVED HERE: tests, programs and checks run over code that is compiled without a proof"
 tested="$(grep -rl '^#\[test\]' crates/*/src | cut -d/ -f2 | sort -u)"
 programs="$(ls crates/*/src/main.rt | cut -d/ -f2)"
-for crate in $tested; do test_crate "$crate" & done
+declare -A running
+for crate in $tested; do
+    (cd "crates/$crate" && exec rt try --test --seconds 3600) > "$room/$crate" 2>&1 &
+    running[$crate]=$!
+done
 for crate in $programs; do
     program="$(tools/unproved-program.sh --fast "$crate")" || { count 1 "building $crate"; continue; }
     try_program "$crate" "$program"
     tools/check-built.sh "$program"
     count "$?" "what tools/check-built.sh tries"
 done
-wait
-for crate in $tested; do tell_tests "$crate"; done
+for crate in $tested; do
+    wait "${running[$crate]}"
+    tell_tests "$crate" "$?"
+done
 echo "$passed passed, $failed failed, and nothing was proved"
 [ "$failed" = 0 ]
