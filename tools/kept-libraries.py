@@ -2,17 +2,19 @@
 """Builds the libraries of a clone, several at a time, and gives another clone those that are of the same sources.
 
     tools/kept-libraries.py build CLONE [--at-once N] [CRATE ..]
-    tools/kept-libraries.py give FROM TO
+    tools/kept-libraries.py give FROM TO [CRATE ..]
 
 `rt check` of a crate wants the library of each crate below, and builds one after the other what is not there. `build`
 proves and builds those of CLONE beforehand, the lowest first and N at a time (by itself as many as processors and memory
 allow), or only those that the crates named stand on, with these. What is built already stays. A line tells each that is
 done, and `crates/NAME/out/library.log` has what was said.
 
-`give` copies to the clone TO the libraries of FROM, with what a check there left, where by rt's own reckoning the crate's
-sources, those of all below it and the toolchain are the same. So a new clone begins to prove where another stands:
+`give` copies to the clone TO the libraries of FROM, where by rt's own reckoning the crate's sources, those of all below
+it and the toolchain are the same. Where crates are named it copies what they stand on, and of themselves also what a
+check left, with which the next check of them begins. All libraries take some four GB. So a new clone begins to prove a
+crate where another stands:
 
-    git clone -q main other && main/tools/kept-libraries.py give main other
+    git clone -q main other && main/tools/kept-libraries.py give main other book
 
 `rt ci` takes nothing from these libraries: it proves all from nothing.
 """
@@ -154,34 +156,44 @@ def build(clone: str, words: list[str]) -> int:
     return Build(sorted(crates, key=lambda crate: -chain[crate.name])).run(most)
 
 
-def give_one(there: str, crate: rtlib.Crate, stamp: str) -> bool:
-    """Copies one library and what a check left beside it. It is not given where it was built anew meanwhile."""
-    held, part = rtlib.lock([crate]), f"{crate.folder}/out.part"
+def give_one(source: str, to: str, stamp: str) -> bool:
+    """Copies a folder with a library to another's place; not where the disk is full, or where it was built anew meanwhile."""
+    part = to + ".part"
     shutil.rmtree(part, ignore_errors=True)
-    subprocess.run(["cp", "-a", "--reflink=auto", f"{there}/out", part], check=True)
-    is_same = rtlib.text_of(f"{part}/rlib/stamp") == stamp
+    os.makedirs(os.path.dirname(part), exist_ok=True)
+    copied = subprocess.run(["cp", "-a", "--reflink=auto", source, part], stderr=subprocess.DEVNULL).returncode == 0
+    is_same = copied and stamp in (rtlib.text_of(f"{part}/stamp"), rtlib.text_of(f"{part}/rlib/stamp"))
     if is_same:
-        shutil.rmtree(f"{crate.folder}/out", ignore_errors=True)
-        os.rename(part, f"{crate.folder}/out")
+        shutil.rmtree(to, ignore_errors=True)
+        os.rename(part, to)
     shutil.rmtree(part, ignore_errors=True)
-    for it in held:
-        os.close(it)
     return is_same
 
 
-def give(source: str, to: str) -> int:
+def give(source: str, to: str, names: list[str]) -> int:
     """Copies the libraries of a clone that are those of another's sources, and tells which."""
     source, to = os.path.abspath(source), os.path.abspath(to)
-    wanted = []
-    for crate in libraries(to):
-        there, stamp = f"{source}/{os.path.relpath(crate.folder, to)}", crate.stamp()
+    crates = rtlib.crates_below(to)
+    if unknown := set(names) - {crate.name for crate in crates}:
+        sys.exit(f"there is no crate {', '.join(sorted(unknown))} in {to}")
+    named = [crate for crate in crates if crate.name in names]
+    wanted = [below for crate in named for below in [*crate.below(), crate]] if names else libraries(to)
+    tasks = {}
+    for crate in wanted:
+        stamp, there = crate.stamp(), f"{source}/{os.path.relpath(crate.folder, to)}"
         if rtlib.text_of(f"{there}/{STAMP}") == stamp != rtlib.text_of(f"{crate.folder}/{STAMP}"):
-            wanted.append((there, crate, stamp))
+            inner = "out" if crate in named else "out/rlib"
+            tasks[crate.name] = (f"{there}/{inner}", f"{crate.folder}/{inner}", stamp)
+    held = rtlib.lock([crate for crate in wanted if crate.name in tasks])
     with ThreadPoolExecutor(len(os.sched_getaffinity(0))) as pool:
-        given = list(pool.map(lambda it: give_one(*it), wanted))
-    names = [crate.name for (_, crate, _), is_given in zip(wanted, given) if is_given]
+        given = dict(zip(tasks, pool.map(lambda it: give_one(*it), tasks.values())))
+    for it in held:
+        os.close(it)
+    names = [name for name in given if given[name]]
     print(f"{len(names)} libraries given: {', '.join(names) or 'none'}")
-    return 0
+    if lost := [name for name in given if not given[name]]:
+        print(f"not copied whole, since the disk is full or they were built anew meanwhile: {', '.join(lost)}", file=sys.stderr)
+    return 1 if lost else 0
 
 
 def main() -> None:
@@ -191,8 +203,8 @@ def main() -> None:
         print(__doc__)
     elif words[:1] == ["build"] and words[1:]:
         sys.exit(build(words[1], words[2:]))
-    elif words[:1] == ["give"] and len(words) == 3:
-        sys.exit(give(words[1], words[2]))
+    elif words[:1] == ["give"] and len(words) >= 3:
+        sys.exit(give(words[1], words[2], words[3:]))
     else:
         sys.exit(__doc__)
 
