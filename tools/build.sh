@@ -6,5 +6,5 @@ echo "proving what is not proved on this machine yet: the first time that takes 
 begun=$SECONDS
 rt run -- solo ../../examples/t.json ../../examples/e || exit 1
 echo "proved and built in $((SECONDS - begun)) seconds: $PWD/out/millwheel"
-echo "what that proves, and what it does not: docs/PROVED.md. The tests and the wrong bodies are the gate's: rt ci"
+echo "what that proves, and what it does not: docs/PROVED.md. The tests and the wrong bodies are the gate's: tools/test.sh"
 echo "try: $PWD/out/millwheel solo examples/t.json examples/e"

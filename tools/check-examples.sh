@@ -23,6 +23,8 @@ for mode in solo plain; do
 done
 expect live.jsonl solo --live t.json e
 expect <(head -n 2 live.jsonl; echo '{"lines":2,"other":1}') collect live.jsonl
+expect twice.jsonl replay --plan twice.plan --live t.json e
+expect expected.jsonl replay --plan twice.plan t.json e
 expect <(echo '{"fired":3,"handled":3,"injected":3,"late":0}') load 7 3
 
 [ "$failed" = 0 ] && echo "each example has its text"
