@@ -69,7 +69,7 @@ fn settle<K: Keeper>(
     settled
 }
 
-// The input mark of one interval.
+// The input mark of one interval. The book is asked where the seat has a lease of the interval.
 fn settled_input<K: Keeper>(
     book: &Book<'_, K>,
     marks: &[u64; 61],
@@ -80,6 +80,9 @@ fn settled_input<K: Keeper>(
     ensures { result ≡ input_after book.now.case.topology book.now.history marks.now interval claim
         input }
 {
+    if claim == 0 {
+        return input;
+    }
     if is_last(book.last_claim(interval), claim) {
         book.sound();
         least_input(book, interval, marks)

@@ -1,6 +1,12 @@
 use Rattle.std.proofs.Common.{◌∙◌, sym}
-use Rattle.shared_book.proofs.Filling.{last-some}
+use Rattle.shared_book.proofs.Filling.{last-some, input-unclaimed}
 use Rattle.shared_book.proofs.settling.settled_input.Goals as goal
+
+-- without a claim the input mark stays
+pub returns-then-claim-eq0 : goal.returns-then-claim-eq0
+returns-then-claim-eq0 g c =
+    input-unclaimed c.args.book.now.case.topology c.args.book.now.history c.args.marks.now c.args.interval c.args.claim c.args.input
+    c.if-claim-eq0.true
 
 -- an interval that was claimed is there
 pub least_input-requires : goal.least_input-requires
