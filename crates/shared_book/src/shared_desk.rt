@@ -59,12 +59,13 @@ impl<'s, 'a, K: Keeper> SharedDesk<'s, 'a, K> {
 }
 
 impl<'s, 'a, K: Keeper> Desk for SharedDesk<'s, 'a, K> {
-    ghost use Rattle.std.specs.Prelude.{◌≤◌, ℕ, true, IfErr, IfOk, IsOk, OnErr};
+    ghost use Rattle.std.specs.Prelude.{◌≤◌, ℕ, min, true, IfErr, IfOk, IsOk, OnErr};
     ghost use Rattle.watermark.specs.Marks.{mark_of};
     ghost use Rattle.book.specs.Conditions.{IsOwnWork};
     ghost use Rattle.book.specs.DeskReasons.{HasReason, IsReportRefusal};
     ghost use Rattle.book.specs.Desking.{IsReported};
     ghost use Rattle.book.specs.Desks.{HasLooked};
+    ghost use Rattle.shared_book.specs.Places.{input_under};
     ghost use Rattle.shared_book.specs.SharedDesks.{is_held, shared_home, shared_view};
 
     type Note = Note<K>;
@@ -128,6 +129,10 @@ impl<'s, 'a, K: Keeper> Desk for SharedDesk<'s, 'a, K> {
             IsOwnWork v.basis.case v.basis.told v.front lease.now own }
 
         ensures always { IsOk result }
+
+        // To its own work, as far as what fed the lease's interval allowed when it was last settled.
+        ensures raised_to { let v = self.old.seat.now.place.me.0 in
+            IfOk result (λ mark. min own (input_under v lease.now) ≤ mark) }
 
         // As of any desk.
         ensures answer { let new = shared_view self.new.seat.now.place.me.0 in
