@@ -13,7 +13,7 @@ use crate::seats::{Note, Seat};
 use crate::shared::Shared;
 use book::{Claimed, Desk, DeskRefusal, Lease, Proposal, Seen, Written};
 use history_laws::case_is_runnable;
-use mw_types::{RecordId, RowName};
+use mw_types::{Duplicate, NoMemory, RecordId, RowName};
 use row_keeper::Keeper;
 use row_parts::Row;
 use std::alloc::Global;
@@ -93,6 +93,27 @@ impl<'s, 'a, K: Keeper> Desk for SharedDesk<'s, 'a, K> {
         row: &Row,
         proposal: &Proposal,
     ) -> Result<Written, DeskRefusal> {
+        let mut left = match row.copy(alloc) {
+            Ok(left) => left,
+            Err(NoMemory) => return Err(DeskRefusal::NoMemory),
+        };
+        match self.write_in(alloc, lease, name, &mut left, proposal) {
+            Ok(commit) => Ok(Written { commit, row: left }),
+            Err(why) => {
+                drop(left);
+                Err(why)
+            }
+        }
+    }
+
+    fn write_in(
+        &mut self,
+        alloc: Global,
+        lease: &Lease,
+        name: &RowName,
+        row: &mut Row,
+        proposal: &Proposal,
+    ) -> Result<u64, DeskRefusal> {
         let shared = self.shared;
         write_once(alloc, shared, self.seat, lease, name, row, proposal)
     }
@@ -105,6 +126,27 @@ impl<'s, 'a, K: Keeper> Desk for SharedDesk<'s, 'a, K> {
         row: &Row,
         id: RecordId,
     ) -> Result<Written, DeskRefusal> {
+        let mut left = match row.copy(alloc) {
+            Ok(left) => left,
+            Err(NoMemory) => return Err(DeskRefusal::NoMemory),
+        };
+        match self.settle_in(alloc, lease, name, &mut left, id) {
+            Ok(commit) => Ok(Written { commit, row: left }),
+            Err(why) => {
+                drop(left);
+                Err(why)
+            }
+        }
+    }
+
+    fn settle_in(
+        &mut self,
+        alloc: Global,
+        lease: &Lease,
+        name: &RowName,
+        row: &mut Row,
+        id: RecordId,
+    ) -> Result<u64, DeskRefusal> {
         let shared = self.shared;
         settle_once(alloc, shared, self.seat, lease, name, row, id)
     }
@@ -117,6 +159,27 @@ impl<'s, 'a, K: Keeper> Desk for SharedDesk<'s, 'a, K> {
         row: &Row,
         floor: u64,
     ) -> Result<Written, DeskRefusal> {
+        let mut left = match row.copy(alloc) {
+            Ok(left) => left,
+            Err(NoMemory) => return Err(DeskRefusal::NoMemory),
+        };
+        match self.purge_in(alloc, lease, name, &mut left, floor) {
+            Ok(commit) => Ok(Written { commit, row: left }),
+            Err(why) => {
+                drop(left);
+                Err(why)
+            }
+        }
+    }
+
+    fn purge_in(
+        &mut self,
+        alloc: Global,
+        lease: &Lease,
+        name: &RowName,
+        row: &mut Row,
+        floor: u64,
+    ) -> Result<u64, DeskRefusal> {
         let shared = self.shared;
         purge_once(alloc, shared, self.seat, lease, name, row, floor)
     }
