@@ -120,10 +120,10 @@ module _ (v : View) (a : CoreView) (old : BookView) (z : CaseShape) (core : IsCo
       }
 
   -- a write that is stale by the book's history is stale by what was seen
-  pub stale_seen : (lease : LeaseView) (r t : Result Written WriteRefusal) → r ≡ t → IsStaleWhere old.history lease r
+  pub stale_seen : {T : Type 0} (lease : LeaseView) (r t : Result T WriteRefusal) → r ≡ t → IsStaleWhere old.history lease r
       → IsStaleWhere v.front lease t
-  stale_seen lease r t is stale =
-      subst (λ (p : Result Written WriteRefusal × List Entry). IsStaleWhere p.1 lease p.0) (λ i. (is i, seen_history i)) stale
+  stale_seen {T} lease r t is stale =
+      subst (λ (p : Result T WriteRefusal × List Entry). IsStaleWhere p.1 lease p.0) (λ i. (is i, seen_history i)) stale
 
   -- what the book found is what was seen
   found_seen : (name : RowName) (row : Contents) → IsRowOf old.case old.rows old.history name row

@@ -93,6 +93,18 @@ claim-reason-busy v found = record {
   damaged = tt;
 }
 
+-- there was no memory for a copy of the row, and nothing was tried
+pub reason-memory : (v : View) (lease : LeaseView) → HasReason (shared_view v) (shared_view v) lease refusals.NoMemory
+reason-memory v lease = record {
+  stale = λ decided. absurd decided;
+  full = λ decided. absurd decided;
+  counts = record {
+    keeper = λ e. absurd cc;
+    busy = λ n e. absurd cc;
+  };
+  no_row = tt;
+}
+
 -- the same, of the seat
 module _ (old new : SeatView) (found : ℕ) (is : new ≡ (missing old.0 found, old.1)) where
   pub busy-looked : HasLooked (shared_view old.0) (shared_view new.0)
@@ -159,8 +171,8 @@ fault-rose : (t w : View) → HasFaulted t w → Rose t.faults w.faults
 fault-rose t w fault = let one = ap (λ (x : View). x.faults) fault.2 in omega (arith, one)
 
 -- a write that was refused
-pub refused-write : (t w : View) (why : WriteRefusal)
-    → (IsErrOf {T = Written} (Err why) writes.KeeperFault → HasFaulted t w) → ((why ≢ writes.KeeperFault) → w ≡ t) → IsRefused t w
+pub refused-write : {T : Type 0} (t w : View) (why : WriteRefusal)
+    → (IsErrOf {T = T} (Err why) writes.KeeperFault → HasFaulted t w) → ((why ≢ writes.KeeperFault) → w ≡ t) → IsRefused t w
 refused-write t w writes.KeeperFault fault same = refused-fault t w (fault refl)
 refused-write t w (writes.Stale newer) fault same = refused-same t w (same (λ e. cc))
 refused-write t w writes.HistoryFull fault same = refused-same t w (same (λ e. cc))
@@ -325,12 +337,12 @@ module _ (v t w : View) (taken : HasTaken v t) (basis : w.basis ≡ t.basis) whe
   none-found found e = let long : 0 ≡ 1 = ap length e in omega (arith, long)
 
   -- a write
-  pub reason-write : (lease : LeaseView) (why : WriteRefusal) → IsRefused t w
-      → (IsErrOf {T = Written} (Err why) writes.KeeperFault → HasFaulted t w)
-      → IsStaleWhere {T = Written} t.front lease (Err why) → IsFullWhere {T = Written} t.basis.limit t.front lease (Err why)
+  pub reason-write : {T : Type 0} (lease : LeaseView) (why : WriteRefusal) → IsRefused t w
+      → (IsErrOf {T = T} (Err why) writes.KeeperFault → HasFaulted t w)
+      → IsStaleWhere {T = T} t.front lease (Err why) → IsFullWhere {T = T} t.basis.limit t.front lease (Err why)
       → HasReason (shared_view v) (shared_view (released w)) lease (of_write why)
-  reason-write lease why refused fault stale full =
-      let cause : HasCause {T = Written} t.faults w.faults (Err why) writes.KeeperFault =
+  reason-write {T} lease why refused fault stale full =
+      let cause : HasCause {T = T} t.faults w.faults (Err why) writes.KeeperFault =
       record { later = refused.faults; rose = λ e. fault-rose t w (fault e) } in
       let r = reason (book_of t) (book_of w) lease why (stayed refused) same_book cause stale full in record {
         stale = r.stale;

@@ -3,6 +3,7 @@ use Rattle.std.proofs.Common.{◌≡◌, ◌∙◌, ℕ, zero, suc, ◌+◌, ◌
 use Rattle.std.specs.Prelude.{max, nat_lt, unwrap_or, None, Option, Some, slice_get, slice_index, slice_set}
 use Rattle.std.specs.List.{cons_option, list_any}
 use Rattle.std.specs.Option.{option_map_or}
+use Rattle.std.proofs.lemmas.Bool.{eqb-true}
 use Rattle.std.proofs.lemmas.Grind.{same_number_lists}
 use Rattle.std.proofs.lemmas.Option.{slice_get_past}
 use Rattle.std.proofs.lemmas.List.{length-take, length-map, length-set, get_or-set_same, get_or-set_other}
@@ -12,6 +13,7 @@ use Rattle.mw_types.specs.declared.entry.Entry.{Entry}
 use Rattle.key_intervals.specs.declared.bounds.Bounds.{Bounds}
 use Rattle.topology.specs.Shapes.{Shape, feeds_of}
 use Rattle.run_history.specs.Cases.{intervals_of}
+use Rattle.run_history.specs.Fences.{last_claim}
 use Rattle.run_history.specs.Watermarks.{least}
 use Rattle.watermark.specs.Marks.{feeding_marks, mark_of, numbers_in}
 use Rattle.shared_book.specs.declared.views.Settled.{Settled}
@@ -135,6 +137,22 @@ inputs-settled shape history loaded claims old new n places so long is fed =
         let same : 0 + k ≡ k = omega arith in
         after-here shape history loaded 0 places k within
         ∙ ap (λ m. place_after shape history loaded m (place_of places k)) same
+
+-- without a claim none is the last, and the input mark is what it was
+pub input-unclaimed : (shape : Shape) (history : List Entry) (loaded : List ℕ) (k claim input : ℕ) → claim ≡ 0
+    → input ≡ input_after shape history loaded k claim input
+input-unclaimed shape history loaded k claim input none = by_last (last_claim k history)
+  where
+    fed : ℕ
+    fed = least (feeding_marks shape k loaded)
+
+    by_test : (seq : ℕ) (b : Bool) → (suc seq == claim) ≡ b → input ≡ cond b fed input
+    by_test seq true same = let is = eqb-true (suc seq) claim same in absurd (omega (arith, is, none))
+    by_test seq false other = refl
+
+    by_last : (o : Option ℕ) → input ≡ cond (option_map_or (λ (seq : ℕ). suc seq == claim) o false) fed input
+    by_last None = refl
+    by_last (Some seq) = by_test seq (suc seq == claim) refl
 
 -- ---- a join
 

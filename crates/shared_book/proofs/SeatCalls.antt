@@ -1,5 +1,5 @@
 -- A seat's arrays are those of its view after each call of a turn.
-use Rattle.std.proofs.Common.{◌≡◌, ◌≢◌, ◌∙◌, ℕ, suc, ◌<◌, ◌++◌, ◌∷◌, List, [], length, drop, refl, sym, ap, subst}
+use Rattle.std.proofs.Common.{◌≡◌, ◌≢◌, ◌∙◌, ℕ, suc, ◌<◌, ◌++◌, ◌∷◌, Bool, true, false, List, [], length, drop, refl, sym, ap, subst}
 use Rattle.std.specs.Prelude.{Err, IfErr, IfOk, IsErrOf, Ok, Result, Some, slice_set}
 use Rattle.std.proofs.lemmas.List.{append-nil}
 use Rattle.mw_types.specs.declared.entry.Entry.{Entry}
@@ -9,6 +9,7 @@ use Rattle.row_parts.specs.Contents.{Contents}
 use Rattle.run_history.specs.Cases.{intervals_of}
 use Rattle.run_history.specs.Fences.{sequencer_of}
 use Rattle.list_lemmas.proofs.Lists.{none_some}
+use Rattle.book.specs.Answers.{answer_of}
 use Rattle.book.specs.Books.{LeaseView}
 use Rattle.book.specs.declared.answers.Claimed.{Claimed}
 use Rattle.book.specs.declared.answers.Written.{Written}
@@ -68,32 +69,54 @@ arrays-fault v w marks claims inputs fault = arrays-same v w marks claims inputs
 
 -- a write was refused
 arrays-refused : (v w : View) (marks claims inputs : List ℕ) (why : WriteRefusal)
-    → (IsErrOf {T = Written} (Err why) writes.KeeperFault → HasFaulted v w) → ((why ≢ writes.KeeperFault) → w ≡ v)
+    → (IsErrOf {T = ℕ} (Err why) writes.KeeperFault → HasFaulted v w) → ((why ≢ writes.KeeperFault) → w ≡ v)
     → HasArrays v marks claims inputs → HasArrays w marks claims inputs
 arrays-refused v w marks claims inputs writes.KeeperFault fault same = arrays-fault v w marks claims inputs (fault refl)
 arrays-refused v w marks claims inputs (writes.Stale newer) fault same = arrays-is v w marks claims inputs (same (λ e. cc))
 arrays-refused v w marks claims inputs writes.HistoryFull fault same = arrays-is v w marks claims inputs (same (λ e. cc))
 arrays-refused v w marks claims inputs writes.NoMemory fault same = arrays-is v w marks claims inputs (same (λ e. cc))
 
--- a write came to its end
-pub arrays-write : (v w : View) (marks claims inputs : List ℕ) (lease : LeaseView) (name : RowName) (proposal : Proposal) (row : Contents)
-    (r : Result Written WriteRefusal) → IfOk r (HasWrittenIn v w lease name proposal row)
+-- a call was refused in a turn in which the book was out, and its keeper may have failed
+pub arrays-back : (v out w : View) (marks claims inputs : List ℕ) (failed : Bool) → out ≡ v → (failed ≡ false → w ≡ out)
+    → (failed ≡ true → HasFaulted out w) → HasArrays v marks claims inputs → HasArrays w marks claims inputs
+arrays-back v out w marks claims inputs true was same fault has =
+    arrays-fault out w marks claims inputs (fault refl) (arrays-is v out marks claims inputs was has)
+arrays-back v out w marks claims inputs false was same fault has =
+    arrays-is out w marks claims inputs (same refl) (arrays-is v out marks claims inputs was has)
+
+-- a proposal was written
+pub arrays-written : (v w : View) (marks claims inputs : List ℕ) (lease : LeaseView) (name : RowName) (proposal : Proposal) (row : Contents)
+    (answer : Written) → HasWrittenIn v w lease name proposal row answer → HasArrays v marks claims inputs → HasArrays w marks claims inputs
+arrays-written v w marks claims inputs lease name proposal row answer is =
+    arrays-grown v w is.written.entry lease.seq marks claims inputs is.view is.written.written.appended
+    (entry_carries v.basis.case lease.seq name proposal is.written.entry is.written.of_proposal)
+
+-- and an entry stored
+pub arrays-stored : (v w : View) (marks claims inputs : List ℕ) (lease : LeaseView) (name : RowName) (entry : Entry) (row : Contents)
+    (answer : Written) → sequencer_of entry ≡ Some lease.seq → HasStoredIn v w lease name entry row answer
+    → HasArrays v marks claims inputs → HasArrays w marks claims inputs
+arrays-stored v w marks claims inputs lease name entry row answer carries is =
+    arrays-grown v w entry lease.seq marks claims inputs is.view is.written.appended carries
+
+-- a write came to its end, on a row where it lies
+pub arrays-write : (v w : View) (marks claims inputs : List ℕ) (lease : LeaseView) (name : RowName) (proposal : Proposal) (row left : Contents)
+    (r : Result ℕ WriteRefusal) → IfOk r (λ commit. HasWrittenIn v w lease name proposal row (answer_of commit left))
     → (IsErrOf r writes.KeeperFault → HasFaulted v w) → IfErr r (λ why. (why ≢ writes.KeeperFault) → w ≡ v)
     → HasArrays v marks claims inputs → HasArrays w marks claims inputs
-arrays-write v w marks claims inputs lease name proposal row (Ok written) ok fault same =
-    arrays-grown v w ok.written.entry lease.seq marks claims inputs ok.view ok.written.written.appended
-    (entry_carries v.basis.case lease.seq name proposal ok.written.entry ok.written.of_proposal)
-arrays-write v w marks claims inputs lease name proposal row (Err why) ok fault same =
+arrays-write v w marks claims inputs lease name proposal row left (Ok commit) ok fault same =
+    arrays-written v w marks claims inputs lease name proposal row (answer_of commit left) ok
+arrays-write v w marks claims inputs lease name proposal row left (Err why) ok fault same =
     arrays-refused v w marks claims inputs why fault same
 
 -- and so one that stores
-pub arrays-store : (v w : View) (marks claims inputs : List ℕ) (lease : LeaseView) (name : RowName) (entry : Entry) (row : Contents)
-    (r : Result Written WriteRefusal) → sequencer_of entry ≡ Some lease.seq → IfOk r (HasStoredIn v w lease name entry row)
+pub arrays-store : (v w : View) (marks claims inputs : List ℕ) (lease : LeaseView) (name : RowName) (entry : Entry) (row left : Contents)
+    (r : Result ℕ WriteRefusal) → sequencer_of entry ≡ Some lease.seq
+    → IfOk r (λ commit. HasStoredIn v w lease name entry row (answer_of commit left))
     → (IsErrOf r writes.KeeperFault → HasFaulted v w) → IfErr r (λ why. (why ≢ writes.KeeperFault) → w ≡ v)
     → HasArrays v marks claims inputs → HasArrays w marks claims inputs
-arrays-store v w marks claims inputs lease name entry row (Ok written) carries ok fault same =
-    arrays-grown v w entry lease.seq marks claims inputs ok.view ok.written.appended carries
-arrays-store v w marks claims inputs lease name entry row (Err why) carries ok fault same =
+arrays-store v w marks claims inputs lease name entry row left (Ok commit) carries ok fault same =
+    arrays-stored v w marks claims inputs lease name entry row (answer_of commit left) carries ok
+arrays-store v w marks claims inputs lease name entry row left (Err why) carries ok fault same =
     arrays-refused v w marks claims inputs why fault same
 
 -- a claim was refused

@@ -1,10 +1,20 @@
 -- What a release and a join make of a seat's arrays. No public clause cites this module.
-use Rattle.std.specs.Prelude.{◌≡◌, ◌<◌, ◌≤◌, ℕ, if◌then◌else◌, List, length, slice_index}
+use Rattle.std.specs.Prelude.{◌≡◌, ◌<◌, ◌≤◌, ℕ, if◌then◌else◌, IfSome, List, Option, length, map, slice_index}
 use Rattle.mw_types.specs.declared.entry.Entry.{Entry}
-use Rattle.topology.specs.Shapes.{Shape}
+use Rattle.topology.specs.Shapes.{Shape, feeds_of}
+use Rattle.run_history.specs.Cases.{intervals_of}
 use Rattle.run_history.specs.Watermarks.{least}
-use Rattle.watermark.specs.Marks.{feeding_marks}
+use Rattle.watermark.specs.Marks.{feeding_marks, mark_of, numbers_in}
 use Rattle.shared_book.specs.Places.{is_last}
+
+-- the least of the marks that feed a part, as they were loaded
+abbrev pub least_of : Shape → List ℕ → ℕ → ℕ
+least_of shape loaded part =
+    least (map (mark_of loaded) (numbers_in (feeds_of shape part) 0 (intervals_of shape)))
+
+-- a part is told with the least of the marks that feed it, or none is
+abbrev pub IsFed : Shape → List ℕ → Option (ℕ × ℕ) → Type 0
+IsFed shape loaded last = IfSome last (λ fed. fed.1 ≡ least_of shape loaded fed.0)
 
 -- the input mark of an interval after a release
 abbrev pub input_after : Shape → List Entry → List ℕ → ℕ → ℕ → ℕ → ℕ

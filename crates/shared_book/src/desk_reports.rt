@@ -1,9 +1,10 @@
 //! Marks and the floor through a desk of a shared book.
-ghost use Rattle.std.specs.Prelude.{◌≡◌, ◌<◌, ◌≤◌, ℕ, [], length, true};
+ghost use Rattle.std.specs.Prelude.{◌≡◌, ◌<◌, ◌≤◌, ℕ, [], length, min, true};
 ghost use Rattle.run_history.specs.Cases.{intervals_of};
 ghost use Rattle.watermark.specs.Marks.{mark_of};
 ghost use Rattle.book.specs.Conditions.{IsOwnWork};
 ghost use Rattle.book.specs.Desks.{HasLooked, KeepsMarks};
+ghost use Rattle.shared_book.specs.Places.{input_under};
 ghost use Rattle.shared_book.specs.SharedDesks.{HasKept, is_held, shared_view};
 ghost use Rattle.shared_book.specs.Turns.{IsHere, IsIdle};
 
@@ -34,6 +35,7 @@ pub(crate) fn report_once<K: Keeper>(
     ensures numbers { seat.new.place.me.0.numbers ≡ seat.old.place.me.0.numbers }
     ensures basis { seat.new.place.me.0.basis ≡ seat.old.place.me.0.basis }
     ensures answer { result ≡ mark_of (shared_view seat.new.place.me.0).marks lease.now.interval }
+    ensures raised_to { min own (input_under seat.old.place.me.0 lease.now) ≤ result }
     ensures looked { HasLooked (shared_view seat.old.place.me.0) (shared_view seat.new.place.me.0) }
     ensures marks { KeepsMarks (shared_view seat.old.place.me.0)
         (shared_view seat.new.place.me.0) }

@@ -2,6 +2,7 @@
 ghost use Rattle.std.specs.Prelude.{◌≡◌, [], IfErr, IfOk, OnErr};
 ghost use Rattle.mw_types.specs.declared.entry.Entry.TheVariants.{Ack, Purge};
 ghost use Rattle.run_history.specs.Runs.{written_row};
+ghost use Rattle.book.specs.Answers.{answer_of};
 ghost use Rattle.book.specs.Conditions.{MaySettle};
 ghost use Rattle.book.specs.Desking.{HasStored, HasWritten, IsKnownOf, IsPurgeKnown, IsRowKnown, MayAsk};
 ghost use Rattle.book.specs.DeskReasons.{HasReason};
@@ -11,33 +12,34 @@ ghost use Rattle.shared_book.specs.SharedDesks.{HasKept, shared_view};
 ghost use Rattle.shared_book.specs.Turns.{IsHere, IsIdle};
 
 use crate::finishing::finish;
+use crate::in_turn::write_in;
 use crate::seats::Seat;
 use crate::shared::Shared;
 use crate::slots::take;
-use crate::turn_calls::{purge_at, settle_at, write_at};
-use book::{DeskRefusal, Lease, Proposal, Written};
+use crate::storing::{purge_in, settle_in};
+use book::{DeskRefusal, Lease, Proposal};
 use mw_types::{RecordId, RowName};
 use row_keeper::Keeper;
 use row_parts::Row;
 use std::alloc::Global;
 
-// One try for the turn, the write of a proposal, and the release.
+// One try for the turn, the write of a proposal on a row that is changed where it lies, and the release.
 pub(crate) fn write_once<K: Keeper>(
     alloc: Global,
     shared: &Shared<'_, K>,
     seat: &mut Seat<K>,
     lease: &Lease,
     name: &RowName,
-    row: &Row,
+    row: &mut Row,
     proposal: &Proposal,
-) -> Result<Written, DeskRefusal>
+) -> Result<u64, DeskRefusal>
     requires here { IsHere shared.now.table.shared.table_id shared.now.case.now seat.old.place }
     requires idle { IsIdle seat.old.place.me }
     requires kept { HasKept seat.old.place.me.0 }
     requires lease { MayAsk (shared_view seat.old.place.me.0) lease.now name.now }
     requires row { IsRowKnown (shared_view seat.old.place.me.0)
-        lease.now name.now row.now }
-    requires proposal { IsProposable shared.now.case.now name.now row.now proposal.now }
+        lease.now name.now row.old }
+    requires proposal { IsProposable shared.now.case.now name.now row.old proposal.now }
     requires known { IsKnownOf (shared_view seat.old.place.me.0)
         name.now proposal.now }
 
@@ -46,8 +48,10 @@ pub(crate) fn write_once<K: Keeper>(
     ensures kept { HasKept seat.new.place.me.0 }
     ensures numbers { seat.new.place.me.0.numbers ≡ seat.old.place.me.0.numbers }
     ensures basis { seat.new.place.me.0.basis ≡ seat.old.place.me.0.basis }
-    ensures written { IfOk result (HasWritten (shared_view seat.old.place.me.0)
-        (shared_view seat.new.place.me.0) lease.now name.now proposal.now row.now) }
+    ensures written { IfOk result (λ commit. HasWritten (shared_view seat.old.place.me.0)
+        (shared_view seat.new.place.me.0) lease.now name.now proposal.now row.old
+        (answer_of commit row.new)) }
+    ensures row { OnErr result (row.new ≡ row.old) }
     ensures looked { OnErr result (HasLooked (shared_view seat.old.place.me.0)
         (shared_view seat.new.place.me.0)) }
     ensures reason { IfErr result (HasReason (shared_view seat.old.place.me.0)
@@ -59,31 +63,31 @@ pub(crate) fn write_once<K: Keeper>(
     if found != 0 {
         return Err(DeskRefusal::Busy { found });
     }
-    let result = write_at(alloc, shared, seat, lease, name, row, proposal);
+    let result = write_in(alloc, shared, &mut seat.place, lease, name, row, proposal);
     finish(shared, seat);
     match result {
-        Ok(written) => Ok(written),
+        Ok(commit) => Ok(commit),
         Err(why) => Err(DeskRefusal::of_write(why)),
     }
 }
 
-// One try for the turn, an id that is settled, and the release.
+// One try for the turn, an id that is settled in a row where it lies, and the release.
 pub(crate) fn settle_once<K: Keeper>(
     alloc: Global,
     shared: &Shared<'_, K>,
     seat: &mut Seat<K>,
     lease: &Lease,
     name: &RowName,
-    row: &Row,
+    row: &mut Row,
     id: RecordId,
-) -> Result<Written, DeskRefusal>
+) -> Result<u64, DeskRefusal>
     requires here { IsHere shared.now.table.shared.table_id shared.now.case.now seat.old.place }
     requires idle { IsIdle seat.old.place.me }
     requires kept { HasKept seat.old.place.me.0 }
     requires lease { MayAsk (shared_view seat.old.place.me.0) lease.now name.now }
     requires row { IsRowKnown (shared_view seat.old.place.me.0)
-        lease.now name.now row.now }
-    requires id { let v = seat.old.place.me.0 in MaySettle v.basis.told v.front row.now id }
+        lease.now name.now row.old }
+    requires id { let v = seat.old.place.me.0 in MaySettle v.basis.told v.front row.old id }
 
     ensures here { IsHere shared.now.table.shared.table_id shared.now.case.now seat.new.place }
     ensures idle { IsIdle seat.new.place.me }
@@ -91,9 +95,10 @@ pub(crate) fn settle_once<K: Keeper>(
     ensures numbers { seat.new.place.me.0.numbers ≡ seat.old.place.me.0.numbers }
     ensures basis { seat.new.place.me.0.basis ≡ seat.old.place.me.0.basis }
     ensures written { let entry = Ack lease.now.seq name.now id in
-        IfOk result (HasStored (shared_view seat.old.place.me.0)
-        (shared_view seat.new.place.me.0) lease.now name.now entry row.now
-        (λ commit. written_row commit entry [] row.now)) }
+        IfOk result (λ commit. HasStored (shared_view seat.old.place.me.0)
+        (shared_view seat.new.place.me.0) lease.now name.now entry row.old
+        (λ number. written_row number entry [] row.old) (answer_of commit row.new)) }
+    ensures row { OnErr result (row.new ≡ row.old) }
     ensures looked { OnErr result (HasLooked (shared_view seat.old.place.me.0)
         (shared_view seat.new.place.me.0)) }
     ensures reason { IfErr result (HasReason (shared_view seat.old.place.me.0)
@@ -105,32 +110,32 @@ pub(crate) fn settle_once<K: Keeper>(
     if found != 0 {
         return Err(DeskRefusal::Busy { found });
     }
-    let result = settle_at(alloc, shared, seat, lease, name, row, id);
+    let result = settle_in(alloc, shared, &mut seat.place, lease, name, row, id);
     finish(shared, seat);
     match result {
-        Ok(written) => Ok(written),
+        Ok(commit) => Ok(commit),
         Err(why) => Err(DeskRefusal::of_write(why)),
     }
 }
 
-// One try for the turn, a row that is purged, and the release.
+// One try for the turn, a row that is purged where it lies, and the release.
 pub(crate) fn purge_once<K: Keeper>(
     alloc: Global,
     shared: &Shared<'_, K>,
     seat: &mut Seat<K>,
     lease: &Lease,
     name: &RowName,
-    row: &Row,
+    row: &mut Row,
     floor: u64,
-) -> Result<Written, DeskRefusal>
+) -> Result<u64, DeskRefusal>
     requires here { IsHere shared.now.table.shared.table_id shared.now.case.now seat.old.place }
     requires idle { IsIdle seat.old.place.me }
     requires kept { HasKept seat.old.place.me.0 }
     requires lease { MayAsk (shared_view seat.old.place.me.0) lease.now name.now }
     requires row { IsRowKnown (shared_view seat.old.place.me.0)
-        lease.now name.now row.now }
+        lease.now name.now row.old }
     requires floor { IsPurgeKnown (shared_view seat.old.place.me.0)
-        name.now row.now floor }
+        name.now row.old floor }
 
     ensures here { IsHere shared.now.table.shared.table_id shared.now.case.now seat.new.place }
     ensures idle { IsIdle seat.new.place.me }
@@ -138,9 +143,10 @@ pub(crate) fn purge_once<K: Keeper>(
     ensures numbers { seat.new.place.me.0.numbers ≡ seat.old.place.me.0.numbers }
     ensures basis { seat.new.place.me.0.basis ≡ seat.old.place.me.0.basis }
     ensures written { let entry = Purge lease.now.seq name.now floor in
-        IfOk result (HasStored (shared_view seat.old.place.me.0)
-        (shared_view seat.new.place.me.0) lease.now name.now entry row.now
-        (λ commit. written_row commit entry [] row.now)) }
+        IfOk result (λ commit. HasStored (shared_view seat.old.place.me.0)
+        (shared_view seat.new.place.me.0) lease.now name.now entry row.old
+        (λ number. written_row number entry [] row.old) (answer_of commit row.new)) }
+    ensures row { OnErr result (row.new ≡ row.old) }
     ensures looked { OnErr result (HasLooked (shared_view seat.old.place.me.0)
         (shared_view seat.new.place.me.0)) }
     ensures reason { IfErr result (HasReason (shared_view seat.old.place.me.0)
@@ -152,10 +158,10 @@ pub(crate) fn purge_once<K: Keeper>(
     if found != 0 {
         return Err(DeskRefusal::Busy { found });
     }
-    let result = purge_at(alloc, shared, seat, lease, name, row, floor);
+    let result = purge_in(alloc, shared, &mut seat.place, lease, name, row, floor);
     finish(shared, seat);
     match result {
-        Ok(written) => Ok(written),
+        Ok(commit) => Ok(commit),
         Err(why) => Err(DeskRefusal::of_write(why)),
     }
 }

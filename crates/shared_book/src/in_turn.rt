@@ -1,7 +1,7 @@
 //! The calls of a book, in a turn: the book is taken out of its place, called, and put back.
-ghost use Rattle.std.specs.Prelude.{◌≡◌, ◌≢◌, IfErr, IfOk, IsErrOf, true, false};
+ghost use Rattle.std.specs.Prelude.{◌≡◌, ◌≢◌, IfErr, IfOk, IsErrOf, OnErr, true, false};
 ghost use Rattle.mw_types.specs.Causes.{Rose};
-ghost use Rattle.book.specs.Answers.{IsFullWhere, IsStaleWhere};
+ghost use Rattle.book.specs.Answers.{IsFullWhere, IsStaleWhere, answer_of};
 ghost use Rattle.book.specs.Proposals.{IsProposable};
 ghost use Rattle.book.specs.declared.refusals.WriteRefusal.TheVariants as refusals;
 ghost use Rattle.shared_book.specs.FenceLaw.{AreClaimed, IsCore};
@@ -11,35 +11,36 @@ use crate::shared::Shared;
 use crate::slots::{append, fault, home, out};
 use crate::views::View;
 use atomic_table::Seat as Place;
-use book::{Book, Core, Lease, Proposal, WriteRefusal, Written};
+use book::{Book, Core, Lease, Proposal, WriteRefusal};
 use mw_types::RowName;
 use row_keeper::Keeper;
 use row_parts::Row;
 use std::alloc::Global;
 
-// A write in a turn.
+// A write in a turn, on a row that is changed where it lies.
 pub(crate) fn write_in<K: Keeper>(
     alloc: Global,
     shared: &Shared<'_, K>,
     place: &mut Place<Option<Core<K>>, View>,
     lease: &Lease,
     name: &RowName,
-    row: &Row,
+    row: &mut Row,
     proposal: &Proposal,
-) -> Result<Written, WriteRefusal>
+) -> Result<u64, WriteRefusal>
     requires here { IsHere shared.now.table.shared.table_id shared.now.case.now place.old }
     requires turn { HasTurn place.old.me }
     requires lease { MayWrite place.old.me.0 lease.now name.now }
-    requires row { IsRowHeld place.old.me.0 lease.now name.now row.now }
-    requires proposal { IsProposable shared.now.case.now name.now row.now proposal.now }
+    requires row { IsRowHeld place.old.me.0 lease.now name.now row.old }
+    requires proposal { IsProposable shared.now.case.now name.now row.old proposal.now }
     requires seen { IsProposedIn place.old.me.0 name.now proposal.now }
 
     ensures here { IsHere shared.now.table.shared.table_id shared.now.case.now place.new }
     ensures turn { HasTurn place.new.me }
     ensures numbers { place.new.me.0.numbers ≡ place.old.me.0.numbers }
     ensures basis { place.new.me.0.basis ≡ place.old.me.0.basis }
-    ensures written { IfOk result
-        (HasWrittenIn place.old.me.0 place.new.me.0 lease.now name.now proposal.now row.now) }
+    ensures written { IfOk result (λ commit. HasWrittenIn place.old.me.0 place.new.me.0
+        lease.now name.now proposal.now row.old (answer_of commit row.new)) }
+    ensures row { OnErr result (row.new ≡ row.old) }
     ensures stale { IsStaleWhere place.old.me.0.front lease.now result }
     ensures full { IsFullWhere place.old.me.0.basis.limit place.old.me.0.front lease.now result }
     ensures fault { IsErrOf result WriteRefusal.KeeperFault →
@@ -50,12 +51,12 @@ pub(crate) fn write_in<K: Keeper>(
     let core = out(shared, place);
     let mut book = Book::of(shared.case, core);
     let front = book.history().len() as u64;
-    let result = book.write(alloc, lease, front, name, row, proposal);
+    let result = book.write_in(alloc, lease, front, name, row, proposal);
     let (_case, core) = book.into_core();
     match result {
-        Ok(written) => {
+        Ok(commit) => {
             append(shared, place, core);
-            Ok(written)
+            Ok(commit)
         }
         Err(why) => {
             back(shared, place, core, why == WriteRefusal::KeeperFault);

@@ -8,7 +8,7 @@ ghost use Rattle.run_history.specs.Runs.{run_of};
 ghost use Rattle.run_history.specs.Watermarks.{least};
 ghost use Rattle.watermark.specs.Marks.{feeding_marks};
 ghost use Rattle.shared_book.specs.Places.{claims_of, inputs_of};
-ghost use Rattle.shared_book.specs.Settling.{AreSettledTo, input_after};
+ghost use Rattle.shared_book.specs.Settling.{AreSettledTo, IsFed, input_after, least_of};
 ghost use Rattle.shared_book.specs.Steps.{idle};
 ghost use Rattle.shared_book.specs.Turns.{HasTurn, IsHere};
 
@@ -62,30 +62,63 @@ fn settle<K: Keeper>(
         inputs.now 61 result }
 {
     let mut settled = *inputs;
+    let mut last = None;
     for interval in 0..61 {
         let at = interval as usize;
-        settled[at] = settled_input(book, marks, interval, claims[at], inputs[at]);
+        let (input, fed) = settled_input(book, marks, interval, claims[at], inputs[at], last);
+        settled[at] = input;
+        last = fed;
     }
     settled
 }
 
-// The input mark of one interval.
+// The input mark of one interval, and the part and its least mark that were computed last. The book is
+// asked where the seat has a lease of the interval.
 fn settled_input<K: Keeper>(
     book: &Book<'_, K>,
     marks: &[u64; 61],
     interval: u32,
     claim: u64,
     input: u64,
-) -> u64
-    ensures { result ≡ input_after book.now.case.topology book.now.history marks.now interval claim
-        input }
+    last: Option<(u32, u64)>,
+) -> (u64, Option<(u32, u64)>)
+    requires last { IsFed book.now.case.topology marks.now last }
+    ensures input { result.0 ≡ input_after book.now.case.topology book.now.history marks.now
+        interval claim input }
+    ensures last { IsFed book.now.case.topology marks.now result.1 }
 {
+    if claim == 0 {
+        return (input, last);
+    }
     if is_last(book.last_claim(interval), claim) {
         book.sound();
-        least_input(book, interval, marks)
+        let fed = fed_by(book, interval, marks, last);
+        (fed.1, Some(fed))
     } else {
-        input
+        (input, last)
     }
+}
+
+// An interval's part, and the least of the marks that feed it: it is computed where the part is not the
+// last.
+fn fed_by<K: Keeper>(
+    book: &Book<'_, K>,
+    interval: u32,
+    marks: &[u64; 61],
+    last: Option<(u32, u64)>,
+) -> (u32, u64)
+    requires there { interval < length (intervals_of book.now.case.topology) }
+    requires last { IsFed book.now.case.topology marks.now last }
+    ensures least { result.1 ≡ least (feeding_marks book.now.case.topology interval marks.now) }
+    ensures part { result.1 ≡ least_of book.now.case.topology marks.now result.0 }
+{
+    let part = book.case().intervals().bounds(interval).part;
+    if let Some(fed) = last {
+        if fed.0 == part {
+            return fed;
+        }
+    }
+    (part, least_input(book, interval, marks))
 }
 
 // The least of the marks that feed an interval.

@@ -13,7 +13,7 @@ use crate::seats::{Note, Seat};
 use crate::shared::Shared;
 use book::{Claimed, Desk, DeskRefusal, Lease, Proposal, Seen, Written};
 use history_laws::case_is_runnable;
-use mw_types::{RecordId, RowName};
+use mw_types::{Duplicate, NoMemory, RecordId, RowName};
 use row_keeper::Keeper;
 use row_parts::Row;
 use std::alloc::Global;
@@ -59,12 +59,13 @@ impl<'s, 'a, K: Keeper> SharedDesk<'s, 'a, K> {
 }
 
 impl<'s, 'a, K: Keeper> Desk for SharedDesk<'s, 'a, K> {
-    ghost use Rattle.std.specs.Prelude.{◌≤◌, ℕ, true, IfErr, IfOk, IsOk, OnErr};
+    ghost use Rattle.std.specs.Prelude.{◌≤◌, ℕ, min, true, IfErr, IfOk, IsOk, OnErr};
     ghost use Rattle.watermark.specs.Marks.{mark_of};
     ghost use Rattle.book.specs.Conditions.{IsOwnWork};
     ghost use Rattle.book.specs.DeskReasons.{HasReason, IsReportRefusal};
     ghost use Rattle.book.specs.Desking.{IsReported};
     ghost use Rattle.book.specs.Desks.{HasLooked};
+    ghost use Rattle.shared_book.specs.Places.{input_under};
     ghost use Rattle.shared_book.specs.SharedDesks.{is_held, shared_home, shared_view};
 
     type Note = Note<K>;
@@ -92,6 +93,27 @@ impl<'s, 'a, K: Keeper> Desk for SharedDesk<'s, 'a, K> {
         row: &Row,
         proposal: &Proposal,
     ) -> Result<Written, DeskRefusal> {
+        let mut left = match row.copy(alloc) {
+            Ok(left) => left,
+            Err(NoMemory) => return Err(DeskRefusal::NoMemory),
+        };
+        match self.write_in(alloc, lease, name, &mut left, proposal) {
+            Ok(commit) => Ok(Written { commit, row: left }),
+            Err(why) => {
+                drop(left);
+                Err(why)
+            }
+        }
+    }
+
+    fn write_in(
+        &mut self,
+        alloc: Global,
+        lease: &Lease,
+        name: &RowName,
+        row: &mut Row,
+        proposal: &Proposal,
+    ) -> Result<u64, DeskRefusal> {
         let shared = self.shared;
         write_once(alloc, shared, self.seat, lease, name, row, proposal)
     }
@@ -104,6 +126,27 @@ impl<'s, 'a, K: Keeper> Desk for SharedDesk<'s, 'a, K> {
         row: &Row,
         id: RecordId,
     ) -> Result<Written, DeskRefusal> {
+        let mut left = match row.copy(alloc) {
+            Ok(left) => left,
+            Err(NoMemory) => return Err(DeskRefusal::NoMemory),
+        };
+        match self.settle_in(alloc, lease, name, &mut left, id) {
+            Ok(commit) => Ok(Written { commit, row: left }),
+            Err(why) => {
+                drop(left);
+                Err(why)
+            }
+        }
+    }
+
+    fn settle_in(
+        &mut self,
+        alloc: Global,
+        lease: &Lease,
+        name: &RowName,
+        row: &mut Row,
+        id: RecordId,
+    ) -> Result<u64, DeskRefusal> {
         let shared = self.shared;
         settle_once(alloc, shared, self.seat, lease, name, row, id)
     }
@@ -116,6 +159,27 @@ impl<'s, 'a, K: Keeper> Desk for SharedDesk<'s, 'a, K> {
         row: &Row,
         floor: u64,
     ) -> Result<Written, DeskRefusal> {
+        let mut left = match row.copy(alloc) {
+            Ok(left) => left,
+            Err(NoMemory) => return Err(DeskRefusal::NoMemory),
+        };
+        match self.purge_in(alloc, lease, name, &mut left, floor) {
+            Ok(commit) => Ok(Written { commit, row: left }),
+            Err(why) => {
+                drop(left);
+                Err(why)
+            }
+        }
+    }
+
+    fn purge_in(
+        &mut self,
+        alloc: Global,
+        lease: &Lease,
+        name: &RowName,
+        row: &mut Row,
+        floor: u64,
+    ) -> Result<u64, DeskRefusal> {
         let shared = self.shared;
         purge_once(alloc, shared, self.seat, lease, name, row, floor)
     }
@@ -128,6 +192,10 @@ impl<'s, 'a, K: Keeper> Desk for SharedDesk<'s, 'a, K> {
             IsOwnWork v.basis.case v.basis.told v.front lease.now own }
 
         ensures always { IsOk result }
+
+        // To its own work, as far as what fed the lease's interval allowed when it was last settled.
+        ensures raised_to { let v = self.old.seat.now.place.me.0 in
+            IfOk result (λ mark. min own (input_under v lease.now) ≤ mark) }
 
         // As of any desk.
         ensures answer { let new = shared_view self.new.seat.now.place.me.0 in

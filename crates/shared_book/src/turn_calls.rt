@@ -14,14 +14,13 @@ ghost use Rattle.shared_book.specs.MarkSteps.{released};
 ghost use Rattle.shared_book.specs.Turns.{HasClaimedIn, HasFaulted, HasStoredIn, HasTurn, HasWrittenIn, IsHere, IsProposedIn, IsRowHeld, MayWrite};
 
 use crate::claiming::{claim_in, unfinished_in};
-use crate::in_turn::write_in;
+use crate::in_turn::back;
 use crate::mark_words::raise_floor;
 use crate::seats::Seat;
 use crate::settling::settled_in;
 use crate::shared::Shared;
-use crate::slots::give;
-use crate::storing::{purge_in, settle_in};
-use book::{ClaimRefusal, Claimed, Lease, Proposal, WriteRefusal, Written};
+use crate::slots::{append, give, out};
+use book::{Book, ClaimRefusal, Claimed, Lease, Proposal, WriteRefusal, Written};
 use history_laws::case_is_runnable;
 use mw_types::{RecordId, RowName};
 use row_keeper::Keeper;
@@ -66,7 +65,7 @@ pub(crate) fn claim_at<K: Keeper>(
     }
 }
 
-// A write in a turn.
+// A write in a turn, on a copy of the row.
 pub(crate) fn write_at<K: Keeper>(
     alloc: Global,
     shared: &Shared<'_, K>,
@@ -97,10 +96,29 @@ pub(crate) fn write_at<K: Keeper>(
     ensures unchanged { IfErr result (λ why. (why ≢ refusals.KeeperFault) →
         seat.new.place.me.0 ≡ seat.old.place.me.0) }
 {
-    write_in(alloc, shared, &mut seat.place, lease, name, row, proposal)
+    let core = out(shared, &mut seat.place);
+    let mut book = Book::of(shared.case, core);
+    let front = book.history().len() as u64;
+    let result = book.write(alloc, lease, front, name, row, proposal);
+    let (_case, core) = book.into_core();
+    match result {
+        Ok(written) => {
+            append(shared, &mut seat.place, core);
+            Ok(written)
+        }
+        Err(why) => {
+            back(
+                shared,
+                &mut seat.place,
+                core,
+                why == WriteRefusal::KeeperFault,
+            );
+            Err(why)
+        }
+    }
 }
 
-// An id is settled in a turn.
+// An id is settled in a turn, in a copy of the row.
 pub(crate) fn settle_at<K: Keeper>(
     alloc: Global,
     shared: &Shared<'_, K>,
@@ -130,10 +148,29 @@ pub(crate) fn settle_at<K: Keeper>(
     ensures unchanged { IfErr result (λ why. (why ≢ refusals.KeeperFault) →
         seat.new.place.me.0 ≡ seat.old.place.me.0) }
 {
-    settle_in(alloc, shared, &mut seat.place, lease, name, row, id)
+    let core = out(shared, &mut seat.place);
+    let mut book = Book::of(shared.case, core);
+    let front = book.history().len() as u64;
+    let result = book.settle(alloc, lease, front, name, row, id);
+    let (_case, core) = book.into_core();
+    match result {
+        Ok(written) => {
+            append(shared, &mut seat.place, core);
+            Ok(written)
+        }
+        Err(why) => {
+            back(
+                shared,
+                &mut seat.place,
+                core,
+                why == WriteRefusal::KeeperFault,
+            );
+            Err(why)
+        }
+    }
 }
 
-// A row is purged in a turn.
+// A copy of a row is purged in a turn.
 pub(crate) fn purge_at<K: Keeper>(
     alloc: Global,
     shared: &Shared<'_, K>,
@@ -164,7 +201,26 @@ pub(crate) fn purge_at<K: Keeper>(
     ensures unchanged { IfErr result (λ why. (why ≢ refusals.KeeperFault) →
         seat.new.place.me.0 ≡ seat.old.place.me.0) }
 {
-    purge_in(alloc, shared, &mut seat.place, lease, name, row, floor)
+    let core = out(shared, &mut seat.place);
+    let mut book = Book::of(shared.case, core);
+    let front = book.history().len() as u64;
+    let result = book.purge(alloc, lease, front, name, row, floor);
+    let (_case, core) = book.into_core();
+    match result {
+        Ok(written) => {
+            append(shared, &mut seat.place, core);
+            Ok(written)
+        }
+        Err(why) => {
+            back(
+                shared,
+                &mut seat.place,
+                core,
+                why == WriteRefusal::KeeperFault,
+            );
+            Err(why)
+        }
+    }
 }
 
 // A count of what is left, in a turn.

@@ -1,4 +1,5 @@
-use Rattle.std.proofs.Common.{ap, arith, subst, sym, ◌∙◌}
+use Rattle.std.proofs.Common.{◌≤◌, ap, arith, subst, sym, ◌∙◌}
+use Rattle.std.specs.Prelude.{min}
 use Rattle.run_history.specs.Inputs.{IsRunnable}
 use Rattle.book.specs.Desks.{HasLooked, KeepsMarks}
 use Rattle.shared_book.specs.Joins.{first_of}
@@ -6,7 +7,7 @@ use Rattle.shared_book.proofs.SeatCalls.{arrays-is}
 use Rattle.shared_book.specs.declared.views.View.{View}
 use Rattle.shared_book.specs.Lists.{IsIn}
 use Rattle.shared_book.specs.MarkSteps.{IsOwnSettled}
-use Rattle.shared_book.specs.Places.{with_mark_loaded}
+use Rattle.shared_book.specs.Places.{input_under, with_mark_loaded}
 use Rattle.shared_book.specs.SharedDesks.{HasKept, shared_view}
 use Rattle.shared_book.specs.Steps.{SeatView}
 use Rattle.watermark.specs.Marks.{mark_of}
@@ -43,6 +44,12 @@ returns-clause-answer g c =
     let below = there.0 in
     let long = p.long.marks in
     mark-loaded v i c.raise.result (omega (arith, below, long)) there.1 ∙ sym (ap (λ (u : View). mark_of (shared_view u).marks i) e)
+
+-- a look settles nothing
+pub returns-clause-raised_to : goal.returns-clause-raised_to
+returns-clause-raised_to g c =
+    subst (λ (m : SeatView). min c.args.own (input_under m.0 c.args.lease.now) ≤ c.raise.result) c.look.ensures.same
+    c.raise.ensures.raised
 
 pub returns-clause-looked : goal.returns-clause-looked
 returns-clause-looked g c =

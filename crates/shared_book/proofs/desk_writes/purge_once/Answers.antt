@@ -1,28 +1,31 @@
-use Rattle.std.proofs.Common.{[], subst, sym}
+use Rattle.std.proofs.Common.{[], ◌∙◌, ap, refl, subst, sym}
 use Rattle.mw_types.specs.declared.entry.Entry.TheVariants.{Purge}
 use Rattle.run_history.specs.Runs.{written_row}
+use Rattle.book.specs.Answers.{answer_of}
 use Rattle.book.specs.Desking.{HasStored}
 use Rattle.book.specs.DeskReasons.{HasReason, of_write}
 use Rattle.book.specs.Desks.{HasLooked, KeepsMarks}
+use Rattle.shared_book.specs.Joins.{first_of}
 use Rattle.shared_book.specs.SharedDesks.{shared_view}
 use Rattle.shared_book.proofs.DeskSteps.{marks-busy, marks-grown, marks-refused, busy-looked, given, looked-refused, reason-write, refused-write, stored}
+use Rattle.shared_book.proofs.SeatCalls.{arrays-store}
 use Rattle.shared_book.proofs.Taking.{core-taken, forget-taken, row-taken, write-taken}
 use Rattle.shared_book.proofs.desk_writes.purge_once.Goals as goal
 
-pub purge_at-result-requires-clause-lease : goal.purge_at-result-requires-clause-lease
-purge_at-result-requires-clause-lease g c =
+pub purge_in-result-requires-clause-lease : goal.purge_in-result-requires-clause-lease
+purge_in-result-requires-clause-lease g c =
     let v = c.args.seat.now.place.me.0 in
     write-taken v c.take-found.new.seat.place.me.0 (c.take-found.ensures.taken c.if-found-ne0.false) c.args.lease.now
     c.args.name.now c.requires.lease
 
-pub purge_at-result-requires-clause-row : goal.purge_at-result-requires-clause-row
-purge_at-result-requires-clause-row g c =
+pub purge_in-result-requires-clause-row : goal.purge_in-result-requires-clause-row
+purge_in-result-requires-clause-row g c =
     let v = c.args.seat.now.place.me.0 in
     row-taken v c.take-found.new.seat.place.me.0 (c.take-found.ensures.taken c.if-found-ne0.false) c.args.lease.now
     c.args.name.now c.args.row.now c.requires.lease c.requires.row
 
-pub purge_at-result-requires-clause-floor : goal.purge_at-result-requires-clause-floor
-purge_at-result-requires-clause-floor g c =
+pub purge_in-result-requires-clause-floor : goal.purge_in-result-requires-clause-floor
+purge_in-result-requires-clause-floor g c =
     let v = c.args.seat.now.place.me.0 in
     let t = c.take-found.new.seat.place.me.0 in
     let taken = c.take-found.ensures.taken c.if-found-ne0.false in
@@ -35,21 +38,21 @@ pub returns-in-Ok-clause-written : goal.returns-in-Ok-clause-written
 returns-in-Ok-clause-written g c =
     let v = c.args.seat.now.place.me.0 in
     let t = c.take-found.new.seat.place.me.0 in
-    let r = c.purge_at-result in
-    let w = r.new.seat.place.me in
+    let r = c.purge_in-result in
+    let w = r.new.place.me in
     let f = c.finish in
     given (λ u. HasStored (shared_view v) (shared_view u) c.args.lease.now c.args.name.now (Purge c.args.lease.now.seq c.args.name.now c.args.floor) c.args.row.now
-    (λ commit. written_row commit (Purge c.args.lease.now.seq c.args.name.now c.args.floor) [] c.args.row.now) c.in-Ok.written)
+    (λ commit. written_row commit (Purge c.args.lease.now.seq c.args.name.now c.args.floor) [] c.args.row.now) (answer_of c.in-Ok.commit r.new.row))
     w f.new.seat.place.me f.ensures.view
     (stored v t w.0 (c.take-found.ensures.taken c.if-found-ne0.false) r.ensures.basis
-    c.args.lease.now c.args.name.now (Purge c.args.lease.now.seq c.args.name.now c.args.floor) c.args.row.now c.in-Ok.written c.in-Ok.ensures.written)
+    c.args.lease.now c.args.name.now (Purge c.args.lease.now.seq c.args.name.now c.args.floor) c.args.row.now (answer_of c.in-Ok.commit r.new.row) c.in-Ok.ensures.written)
 
 pub returns-in-Err-clause-looked : goal.returns-in-Err-clause-looked
 returns-in-Err-clause-looked g c =
     let v = c.args.seat.now.place.me.0 in
     let t = c.take-found.new.seat.place.me.0 in
-    let r = c.purge_at-result in
-    let w = r.new.seat.place.me in
+    let r = c.purge_in-result in
+    let w = r.new.place.me in
     let f = c.finish in
     given (λ u. HasLooked (shared_view v) (shared_view u)) w f.new.seat.place.me f.ensures.view
     (looked-refused v t w.0 (c.take-found.ensures.taken c.if-found-ne0.false) r.ensures.basis
@@ -59,8 +62,8 @@ pub returns-in-Err-clause-reason : goal.returns-in-Err-clause-reason
 returns-in-Err-clause-reason g c =
     let v = c.args.seat.now.place.me.0 in
     let t = c.take-found.new.seat.place.me.0 in
-    let r = c.purge_at-result in
-    let w = r.new.seat.place.me in
+    let r = c.purge_in-result in
+    let w = r.new.place.me in
     let f = c.finish in
     let why = c.in-Err.why in
     let refused = refused-write t w.0 why c.in-Err.ensures.fault c.in-Err.ensures.unchanged in
@@ -81,8 +84,8 @@ pub returns-in-Ok-clause-marks : goal.returns-in-Ok-clause-marks
 returns-in-Ok-clause-marks g c =
     let v = c.args.seat.now.place.me.0 in
     let t = c.take-found.new.seat.place.me.0 in
-    let r = c.purge_at-result in
-    let w = r.new.seat.place.me in
+    let r = c.purge_in-result in
+    let w = r.new.place.me in
     let f = c.finish in
     given (λ u. KeepsMarks (shared_view v) (shared_view u)) w f.new.seat.place.me f.ensures.view
     (marks-grown v t w.0 (c.take-found.ensures.taken c.if-found-ne0.false) r.ensures.basis c.in-Ok.ensures.written.view)
@@ -91,8 +94,8 @@ pub returns-in-Err-clause-marks : goal.returns-in-Err-clause-marks
 returns-in-Err-clause-marks g c =
     let v = c.args.seat.now.place.me.0 in
     let t = c.take-found.new.seat.place.me.0 in
-    let r = c.purge_at-result in
-    let w = r.new.seat.place.me in
+    let r = c.purge_in-result in
+    let w = r.new.place.me in
     let f = c.finish in
     given (λ u. KeepsMarks (shared_view v) (shared_view u)) w f.new.seat.place.me f.ensures.view
     (marks-refused v t w.0 (c.take-found.ensures.taken c.if-found-ne0.false) r.ensures.basis (refused-write t w.0 c.in-Err.why c.in-Err.ensures.fault c.in-Err.ensures.unchanged))
@@ -100,3 +103,22 @@ returns-in-Err-clause-marks g c =
 pub returns-then-found-ne0-clause-marks : goal.returns-then-found-ne0-clause-marks
 returns-then-found-ne0-clause-marks g c =
     marks-busy c.args.seat.now.place.me c.take-found.new.seat.place.me c.take-found.result (c.take-found.ensures.busy c.if-found-ne0.true)
+
+pub invariant_of-seat : goal.invariant_of-seat
+invariant_of-seat g c =
+    let p = c.take-found.new.seat in
+    let v = p.place.me.0 in
+    let r = c.purge_in-result in
+    let has = arrays-store v r.new.place.me.0 p.marks p.claims p.inputs c.args.lease.now c.args.name.now
+    (Purge c.args.lease.now.seq c.args.name.now c.args.floor) c.args.row.now r.new.row r.result refl r.ensures.written r.ensures.fault r.ensures.unchanged
+    (record { loaded = p.loaded; claimed = p.claimed; fed = p.fed; long = p.long; there = p.there }) in
+    record {
+      numbered = ap first_of r.ensures.numbers ∙ p.numbered;
+      small = p.small;
+      live = r.ensures.here.live;
+      loaded = has.loaded;
+      claimed = has.claimed;
+      fed = has.fed;
+      long = has.long;
+      there = has.there;
+    }

@@ -1,28 +1,31 @@
-use Rattle.std.proofs.Common.{[], subst, sym}
+use Rattle.std.proofs.Common.{[], ◌∙◌, ap, refl, subst, sym}
 use Rattle.mw_types.specs.declared.entry.Entry.TheVariants.{Ack}
 use Rattle.run_history.specs.Runs.{written_row}
+use Rattle.book.specs.Answers.{answer_of}
 use Rattle.book.specs.Desking.{HasStored}
 use Rattle.book.specs.DeskReasons.{HasReason, of_write}
 use Rattle.book.specs.Desks.{HasLooked, KeepsMarks}
+use Rattle.shared_book.specs.Joins.{first_of}
 use Rattle.shared_book.specs.SharedDesks.{shared_view}
 use Rattle.shared_book.proofs.DeskSteps.{marks-busy, marks-grown, marks-refused, busy-looked, given, looked-refused, reason-write, refused-write, stored}
+use Rattle.shared_book.proofs.SeatCalls.{arrays-store}
 use Rattle.shared_book.proofs.Taking.{settle-taken, row-taken, write-taken}
 use Rattle.shared_book.proofs.desk_writes.settle_once.Goals as goal
 
-pub settle_at-result-requires-clause-lease : goal.settle_at-result-requires-clause-lease
-settle_at-result-requires-clause-lease g c =
+pub settle_in-result-requires-clause-lease : goal.settle_in-result-requires-clause-lease
+settle_in-result-requires-clause-lease g c =
     let v = c.args.seat.now.place.me.0 in
     write-taken v c.take-found.new.seat.place.me.0 (c.take-found.ensures.taken c.if-found-ne0.false) c.args.lease.now
     c.args.name.now c.requires.lease
 
-pub settle_at-result-requires-clause-row : goal.settle_at-result-requires-clause-row
-settle_at-result-requires-clause-row g c =
+pub settle_in-result-requires-clause-row : goal.settle_in-result-requires-clause-row
+settle_in-result-requires-clause-row g c =
     let v = c.args.seat.now.place.me.0 in
     row-taken v c.take-found.new.seat.place.me.0 (c.take-found.ensures.taken c.if-found-ne0.false) c.args.lease.now
     c.args.name.now c.args.row.now c.requires.lease c.requires.row
 
-pub settle_at-result-requires-clause-id : goal.settle_at-result-requires-clause-id
-settle_at-result-requires-clause-id g c =
+pub settle_in-result-requires-clause-id : goal.settle_in-result-requires-clause-id
+settle_in-result-requires-clause-id g c =
     let v = c.args.seat.now.place.me.0 in
     settle-taken v c.take-found.new.seat.place.me.0 (c.take-found.ensures.taken c.if-found-ne0.false) c.args.row.now c.args.id c.requires.id
 
@@ -30,21 +33,21 @@ pub returns-in-Ok-clause-written : goal.returns-in-Ok-clause-written
 returns-in-Ok-clause-written g c =
     let v = c.args.seat.now.place.me.0 in
     let t = c.take-found.new.seat.place.me.0 in
-    let r = c.settle_at-result in
-    let w = r.new.seat.place.me in
+    let r = c.settle_in-result in
+    let w = r.new.place.me in
     let f = c.finish in
     given (λ u. HasStored (shared_view v) (shared_view u) c.args.lease.now c.args.name.now (Ack c.args.lease.now.seq c.args.name.now c.args.id) c.args.row.now
-    (λ commit. written_row commit (Ack c.args.lease.now.seq c.args.name.now c.args.id) [] c.args.row.now) c.in-Ok.written)
+    (λ commit. written_row commit (Ack c.args.lease.now.seq c.args.name.now c.args.id) [] c.args.row.now) (answer_of c.in-Ok.commit r.new.row))
     w f.new.seat.place.me f.ensures.view
     (stored v t w.0 (c.take-found.ensures.taken c.if-found-ne0.false) r.ensures.basis
-    c.args.lease.now c.args.name.now (Ack c.args.lease.now.seq c.args.name.now c.args.id) c.args.row.now c.in-Ok.written c.in-Ok.ensures.written)
+    c.args.lease.now c.args.name.now (Ack c.args.lease.now.seq c.args.name.now c.args.id) c.args.row.now (answer_of c.in-Ok.commit r.new.row) c.in-Ok.ensures.written)
 
 pub returns-in-Err-clause-looked : goal.returns-in-Err-clause-looked
 returns-in-Err-clause-looked g c =
     let v = c.args.seat.now.place.me.0 in
     let t = c.take-found.new.seat.place.me.0 in
-    let r = c.settle_at-result in
-    let w = r.new.seat.place.me in
+    let r = c.settle_in-result in
+    let w = r.new.place.me in
     let f = c.finish in
     given (λ u. HasLooked (shared_view v) (shared_view u)) w f.new.seat.place.me f.ensures.view
     (looked-refused v t w.0 (c.take-found.ensures.taken c.if-found-ne0.false) r.ensures.basis
@@ -54,8 +57,8 @@ pub returns-in-Err-clause-reason : goal.returns-in-Err-clause-reason
 returns-in-Err-clause-reason g c =
     let v = c.args.seat.now.place.me.0 in
     let t = c.take-found.new.seat.place.me.0 in
-    let r = c.settle_at-result in
-    let w = r.new.seat.place.me in
+    let r = c.settle_in-result in
+    let w = r.new.place.me in
     let f = c.finish in
     let why = c.in-Err.why in
     let refused = refused-write t w.0 why c.in-Err.ensures.fault c.in-Err.ensures.unchanged in
@@ -76,8 +79,8 @@ pub returns-in-Ok-clause-marks : goal.returns-in-Ok-clause-marks
 returns-in-Ok-clause-marks g c =
     let v = c.args.seat.now.place.me.0 in
     let t = c.take-found.new.seat.place.me.0 in
-    let r = c.settle_at-result in
-    let w = r.new.seat.place.me in
+    let r = c.settle_in-result in
+    let w = r.new.place.me in
     let f = c.finish in
     given (λ u. KeepsMarks (shared_view v) (shared_view u)) w f.new.seat.place.me f.ensures.view
     (marks-grown v t w.0 (c.take-found.ensures.taken c.if-found-ne0.false) r.ensures.basis c.in-Ok.ensures.written.view)
@@ -86,8 +89,8 @@ pub returns-in-Err-clause-marks : goal.returns-in-Err-clause-marks
 returns-in-Err-clause-marks g c =
     let v = c.args.seat.now.place.me.0 in
     let t = c.take-found.new.seat.place.me.0 in
-    let r = c.settle_at-result in
-    let w = r.new.seat.place.me in
+    let r = c.settle_in-result in
+    let w = r.new.place.me in
     let f = c.finish in
     given (λ u. KeepsMarks (shared_view v) (shared_view u)) w f.new.seat.place.me f.ensures.view
     (marks-refused v t w.0 (c.take-found.ensures.taken c.if-found-ne0.false) r.ensures.basis (refused-write t w.0 c.in-Err.why c.in-Err.ensures.fault c.in-Err.ensures.unchanged))
@@ -95,3 +98,22 @@ returns-in-Err-clause-marks g c =
 pub returns-then-found-ne0-clause-marks : goal.returns-then-found-ne0-clause-marks
 returns-then-found-ne0-clause-marks g c =
     marks-busy c.args.seat.now.place.me c.take-found.new.seat.place.me c.take-found.result (c.take-found.ensures.busy c.if-found-ne0.true)
+
+pub invariant_of-seat : goal.invariant_of-seat
+invariant_of-seat g c =
+    let p = c.take-found.new.seat in
+    let v = p.place.me.0 in
+    let r = c.settle_in-result in
+    let has = arrays-store v r.new.place.me.0 p.marks p.claims p.inputs c.args.lease.now c.args.name.now
+    (Ack c.args.lease.now.seq c.args.name.now c.args.id) c.args.row.now r.new.row r.result refl r.ensures.written r.ensures.fault r.ensures.unchanged
+    (record { loaded = p.loaded; claimed = p.claimed; fed = p.fed; long = p.long; there = p.there }) in
+    record {
+      numbered = ap first_of r.ensures.numbers ∙ p.numbered;
+      small = p.small;
+      live = r.ensures.here.live;
+      loaded = has.loaded;
+      claimed = has.claimed;
+      fed = has.fed;
+      long = has.long;
+      there = has.there;
+    }

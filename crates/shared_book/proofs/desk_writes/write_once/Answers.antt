@@ -1,26 +1,29 @@
-use Rattle.std.proofs.Common.{subst, sym}
+use Rattle.std.proofs.Common.{◌∙◌, ap, subst, sym}
+use Rattle.book.specs.Answers.{answer_of}
 use Rattle.book.specs.Desking.{HasWritten}
 use Rattle.book.specs.DeskReasons.{HasReason, of_write}
 use Rattle.book.specs.Desks.{HasLooked, KeepsMarks}
+use Rattle.shared_book.specs.Joins.{first_of}
 use Rattle.shared_book.specs.SharedDesks.{shared_view}
 use Rattle.shared_book.proofs.DeskSteps.{marks-busy, marks-grown, marks-refused, busy-looked, given, looked-refused, reason-write, refused-write, written-by}
+use Rattle.shared_book.proofs.SeatCalls.{arrays-write}
 use Rattle.shared_book.proofs.Taking.{core-taken, proposed-taken, row-taken, write-taken}
 use Rattle.shared_book.proofs.desk_writes.write_once.Goals as goal
 
-pub write_at-result-requires-clause-lease : goal.write_at-result-requires-clause-lease
-write_at-result-requires-clause-lease g c =
+pub write_in-result-requires-clause-lease : goal.write_in-result-requires-clause-lease
+write_in-result-requires-clause-lease g c =
     let v = c.args.seat.now.place.me.0 in
     write-taken v c.take-found.new.seat.place.me.0 (c.take-found.ensures.taken c.if-found-ne0.false) c.args.lease.now
     c.args.name.now c.requires.lease
 
-pub write_at-result-requires-clause-row : goal.write_at-result-requires-clause-row
-write_at-result-requires-clause-row g c =
+pub write_in-result-requires-clause-row : goal.write_in-result-requires-clause-row
+write_in-result-requires-clause-row g c =
     let v = c.args.seat.now.place.me.0 in
     row-taken v c.take-found.new.seat.place.me.0 (c.take-found.ensures.taken c.if-found-ne0.false) c.args.lease.now
     c.args.name.now c.args.row.now c.requires.lease c.requires.row
 
-pub write_at-result-requires-clause-seen : goal.write_at-result-requires-clause-seen
-write_at-result-requires-clause-seen g c =
+pub write_in-result-requires-clause-seen : goal.write_in-result-requires-clause-seen
+write_in-result-requires-clause-seen g c =
     let v = c.args.seat.now.place.me.0 in
     let t = c.take-found.new.seat.place.me.0 in
     let taken = c.take-found.ensures.taken c.if-found-ne0.false in
@@ -33,20 +36,20 @@ pub returns-in-Ok-clause-written : goal.returns-in-Ok-clause-written
 returns-in-Ok-clause-written g c =
     let v = c.args.seat.now.place.me.0 in
     let t = c.take-found.new.seat.place.me.0 in
-    let r = c.write_at-result in
-    let w = r.new.seat.place.me in
+    let r = c.write_in-result in
+    let w = r.new.place.me in
     let f = c.finish in
-    given (λ u. HasWritten (shared_view v) (shared_view u) c.args.lease.now c.args.name.now c.args.proposal.now c.args.row.now c.in-Ok.written)
+    given (λ u. HasWritten (shared_view v) (shared_view u) c.args.lease.now c.args.name.now c.args.proposal.now c.args.row.now (answer_of c.in-Ok.commit r.new.row))
     w f.new.seat.place.me f.ensures.view
     (written-by v t w.0 (c.take-found.ensures.taken c.if-found-ne0.false) r.ensures.basis
-    c.args.lease.now c.args.name.now c.args.proposal.now c.args.row.now c.in-Ok.written c.in-Ok.ensures.written)
+    c.args.lease.now c.args.name.now c.args.proposal.now c.args.row.now (answer_of c.in-Ok.commit r.new.row) c.in-Ok.ensures.written)
 
 pub returns-in-Err-clause-looked : goal.returns-in-Err-clause-looked
 returns-in-Err-clause-looked g c =
     let v = c.args.seat.now.place.me.0 in
     let t = c.take-found.new.seat.place.me.0 in
-    let r = c.write_at-result in
-    let w = r.new.seat.place.me in
+    let r = c.write_in-result in
+    let w = r.new.place.me in
     let f = c.finish in
     given (λ u. HasLooked (shared_view v) (shared_view u)) w f.new.seat.place.me f.ensures.view
     (looked-refused v t w.0 (c.take-found.ensures.taken c.if-found-ne0.false) r.ensures.basis
@@ -56,8 +59,8 @@ pub returns-in-Err-clause-reason : goal.returns-in-Err-clause-reason
 returns-in-Err-clause-reason g c =
     let v = c.args.seat.now.place.me.0 in
     let t = c.take-found.new.seat.place.me.0 in
-    let r = c.write_at-result in
-    let w = r.new.seat.place.me in
+    let r = c.write_in-result in
+    let w = r.new.place.me in
     let f = c.finish in
     let why = c.in-Err.why in
     let refused = refused-write t w.0 why c.in-Err.ensures.fault c.in-Err.ensures.unchanged in
@@ -78,8 +81,8 @@ pub returns-in-Ok-clause-marks : goal.returns-in-Ok-clause-marks
 returns-in-Ok-clause-marks g c =
     let v = c.args.seat.now.place.me.0 in
     let t = c.take-found.new.seat.place.me.0 in
-    let r = c.write_at-result in
-    let w = r.new.seat.place.me in
+    let r = c.write_in-result in
+    let w = r.new.place.me in
     let f = c.finish in
     given (λ u. KeepsMarks (shared_view v) (shared_view u)) w f.new.seat.place.me f.ensures.view
     (marks-grown v t w.0 (c.take-found.ensures.taken c.if-found-ne0.false) r.ensures.basis c.in-Ok.ensures.written.view)
@@ -88,8 +91,8 @@ pub returns-in-Err-clause-marks : goal.returns-in-Err-clause-marks
 returns-in-Err-clause-marks g c =
     let v = c.args.seat.now.place.me.0 in
     let t = c.take-found.new.seat.place.me.0 in
-    let r = c.write_at-result in
-    let w = r.new.seat.place.me in
+    let r = c.write_in-result in
+    let w = r.new.place.me in
     let f = c.finish in
     given (λ u. KeepsMarks (shared_view v) (shared_view u)) w f.new.seat.place.me f.ensures.view
     (marks-refused v t w.0 (c.take-found.ensures.taken c.if-found-ne0.false) r.ensures.basis (refused-write t w.0 c.in-Err.why c.in-Err.ensures.fault c.in-Err.ensures.unchanged))
@@ -97,3 +100,22 @@ returns-in-Err-clause-marks g c =
 pub returns-then-found-ne0-clause-marks : goal.returns-then-found-ne0-clause-marks
 returns-then-found-ne0-clause-marks g c =
     marks-busy c.args.seat.now.place.me c.take-found.new.seat.place.me c.take-found.result (c.take-found.ensures.busy c.if-found-ne0.true)
+
+pub invariant_of-seat : goal.invariant_of-seat
+invariant_of-seat g c =
+    let p = c.take-found.new.seat in
+    let v = p.place.me.0 in
+    let r = c.write_in-result in
+    let has = arrays-write v r.new.place.me.0 p.marks p.claims p.inputs c.args.lease.now c.args.name.now c.args.proposal.now
+    c.args.row.now r.new.row r.result r.ensures.written r.ensures.fault r.ensures.unchanged
+    (record { loaded = p.loaded; claimed = p.claimed; fed = p.fed; long = p.long; there = p.there }) in
+    record {
+      numbered = ap first_of r.ensures.numbers ∙ p.numbered;
+      small = p.small;
+      live = r.ensures.here.live;
+      loaded = has.loaded;
+      claimed = has.claimed;
+      fed = has.fed;
+      long = has.long;
+      there = has.there;
+    }

@@ -1,20 +1,21 @@
 use Rattle.std.proofs.Common.{ap, ◌∙◌, length, refl}
 use Rattle.mw_types.specs.declared.entry.Entry.TheVariants.{Purge}
+use Rattle.book.specs.Answers.{answer_of}
 use Rattle.shared_book.specs.FenceLaw.{AreClaimed}
 use Rattle.shared_book.specs.Turns.{IsGrown}
 use Rattle.shared_book.proofs.Calls.{use_held, forget_held, lease_own, grown_by, stale_seen, stored_in, as_out, in_after}
 use Rattle.shared_book.proofs.storing.purge_in.Goals as goal
 
-pub purge-result-requires-clause-lease : goal.purge-result-requires-clause-lease
-purge-result-requires-clause-lease g c =
+pub purge_in-result-requires-clause-lease : goal.purge_in-result-requires-clause-lease
+purge_in-result-requires-clause-lease g c =
     let o = c.out-core in
     let b = c.of-book in
     use_held c.args.place.now.me.0 o.result b.result c.args.shared.now.case.now o.ensures.core b.ensures.core b.ensures.case
     c.requires.here.case c.args.lease.now c.len-front.result c.args.name.now c.requires.turn.claimed
     (c.len-front.ensures.count ∙ ap length c.history.ensures.history) c.requires.lease
 
-pub purge-result-requires-clause-floor : goal.purge-result-requires-clause-floor
-purge-result-requires-clause-floor g c =
+pub purge_in-result-requires-clause-floor : goal.purge_in-result-requires-clause-floor
+purge_in-result-requires-clause-floor g c =
     let o = c.out-core in
     let b = c.of-book in
     forget_held c.args.place.now.me.0 o.result b.result c.args.shared.now.case.now o.ensures.core b.ensures.core b.ensures.case
@@ -31,7 +32,7 @@ append-requires-clause-grown g c =
     let entry = Purge c.args.lease.now.seq c.args.name.now c.args.floor in
     as_out c.args.place.now.me o.new.place.me (λ u. IsGrown u i.result.1) o.ensures.view
     (grown_by v o.result b.result c.args.shared.now.case.now o.ensures.core b.ensures.core b.ensures.case c.requires.here.case
-    c.purge-result.new.self i.result.1 i.result.0.now c.requires.turn.claimed k.same k.keeper_fault.later i.ensures.core
+    c.purge_in-result.new.self i.result.1 i.result.0.now c.requires.turn.claimed k.same k.keeper_fault.later i.ensures.core
     i.ensures.case i.ensures.lawful entry k.written.appended
     (lease_own v c.args.lease.now entry c.requires.lease.held refl))
 
@@ -49,9 +50,9 @@ returns-in-Ok-clause-written g c =
     let k = c.in-Ok.ensures in
     let entry = Purge c.args.lease.now.seq c.args.name.now c.args.floor in
     stored_in v o.result b.result c.args.shared.now.case.now o.ensures.core b.ensures.core b.ensures.case c.requires.here.case
-    c.purge-result.new.self i.result.1 i.result.0.now c.requires.turn.claimed k.same k.keeper_fault.later i.ensures.core
+    c.purge_in-result.new.self i.result.1 i.result.0.now c.requires.turn.claimed k.same k.keeper_fault.later i.ensures.core
     i.ensures.case i.ensures.lawful c.append.new.place.me.0 c.args.lease.now c.args.name.now entry c.args.row.now
-    c.in-Ok.written (in_after c.args.place.now.me o.new.place.me c.append.new.place.me i.result.1 o.ensures.view c.append.ensures.view)
+    (answer_of c.in-Ok.commit c.purge_in-result.new.row) (in_after c.args.place.now.me o.new.place.me c.append.new.place.me i.result.1 o.ensures.view c.append.ensures.view)
     k.found k.written
 
 pub returns-in-Err-clause-stale : goal.returns-in-Err-clause-stale
@@ -59,4 +60,4 @@ returns-in-Err-clause-stale g c =
     let o = c.out-core in
     let b = c.of-book in
     stale_seen c.args.place.now.me.0 o.result b.result c.args.shared.now.case.now o.ensures.core b.ensures.core b.ensures.case
-    c.requires.here.case c.args.lease.now c.purge-result.result _ c.in-Err.is c.purge-result.ensures.stale
+    c.requires.here.case c.args.lease.now c.purge_in-result.result _ c.in-Err.is c.purge_in-result.ensures.stale
