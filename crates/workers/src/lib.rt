@@ -20,6 +20,7 @@
 
 mod acting;
 mod boxes;
+mod budget;
 mod calls;
 mod claim_tries;
 mod claiming;
@@ -28,6 +29,7 @@ mod crew;
 mod dealing;
 mod ended;
 mod hand;
+mod held;
 mod joining;
 mod learning;
 mod letter;
