@@ -1,8 +1,9 @@
 -- What each call of a worker appends, by what it answers.
-use Rattle.std.proofs.Common.{◌≡◌, ◌∙◌, ◌∷◌, ℕ, Bool, true, false, List, [], refl, sym, ap, subst, inl, inr}
+use Rattle.std.proofs.Common.{◌≡◌, ◌≤◌, ◌∙◌, ◌∷◌, ℕ, Bool, true, false, List, [], refl, sym, ap, subst, arith, inl, inr}
 use Rattle.std.specs.Prelude.{Option, Some, None, IsSome, IfOk, IfSome, OnErr, Result, Ok, Err, if◌then◌else◌, unwrap_or}
 use Rattle.std.specs.Option.{is_some, option_and_then, option_map, option_map_or}
 use Rattle.std.proofs.lemmas.Bool.{cases_eq, ne_eqb}
+use Rattle.list_lemmas.proofs.Told.{if-same}
 use Rattle.mw_types.specs.Outcomes.{EffectsView}
 use Rattle.mw_types.specs.declared.delivery.Delivery.{Delivery}
 use Rattle.mw_types.specs.declared.entry.Entry.{Entry}
@@ -15,12 +16,14 @@ use Rattle.topology.specs.Shapes.{Shape}
 use Rattle.row_parts.specs.Contents.{is_finished, cursor_in, found_delivery}
 use Rattle.run_history.specs.Cases.{CaseShape, record_of, source_of}
 use Rattle.run_history.specs.Fences.{sequencer_of}
+use Rattle.run_history.specs.Finished.{is_handled}
+use Rattle.history_laws.proofs.FinishedLaws.{is_handled-more}
 use Rattle.book.specs.Books.{LeaseView}
 use Rattle.book.specs.Desks.{DeskView, HasLooked}
 use Rattle.book.specs.declared.proposal.Proposal.{Proposal}
 use Rattle.book.specs.declared.proposal.Proposal.TheVariants as proposals
 use Rattle.holdings.specs.Holding.{HeldView, held_at, held_on, row_held}
-use Rattle.node.specs.Answers.{AnswersAck, AnswersAckOf, AnswersAsked, AnswersFire, AnswersPurge, AnswersReport, AnswersReportOf, AnswersSome, AnswersWrite, HasKept, IsLost, received, taken_from}
+use Rattle.node.specs.Answers.{AnswersAck, AnswersAsked, AnswersFire, AnswersPurge, AnswersReport, AnswersReportOf, AnswersSome, AnswersWrite, HasKept, IsLost, received, taken_from}
 use Rattle.node.specs.Asking.{MayAskFire, MayAskPurge, Request, handled_as, line_asked, next_line, proposed, settling, work_asked}
 use Rattle.node.specs.Fits.{Fits}
 use Rattle.node.specs.Workers.{NodeView, Sending, WorkView, Worker, leases_of, sending_of, with_lease, with_outgoing, with_written, worker_at}
@@ -211,13 +214,12 @@ served-report case old new interval was node outcome before fits number is = by_
         (served-kept case old new was node fits number is.1.looked is.1.kept)
     by_held (Some held) at is = by_outcome held at outcome is
 
--- word that a record was handled
-pub served-ack : (case : CaseShape) (old new : DeskView) (taken : Outgoing) (was node : NodeView) (outcome : Outcome)
+-- a row that sent a record no longer waits for it
+served-settle : (case : CaseShape) (old new : DeskView) (to : RowName) (id : RecordId) (was node : NodeView) (outcome : Outcome)
     → Fits case old was → Fits case new node → node.number ≡ was.number
-    → AnswersAckOf case.topology old new taken was node outcome → HasServed case (entries_of outcome) old new was node
-served-ack case old new (outgoing.Deliver delivery sender) was node outcome before fits number is = absurd is
-served-ack case old new (outgoing.Ack to id) was node outcome before fits number is =
-    by_held (held_on case.topology was.held to) refl is
+    → AnswersAck case.topology old new (held_on case.topology was.held to) to id was node outcome
+    → HasServed case (entries_of outcome) old new was node
+served-settle case old new to id was node outcome before fits number is = by_held (held_on case.topology was.held to) refl is
   where
     by_held : (o : Option HeldView) → held_on case.topology was.held to ≡ o
         → AnswersAck case.topology old new o to id was node outcome → HasServed case (entries_of outcome) old new was node
@@ -354,3 +356,30 @@ report-answered case old new interval was node (Ok outcome) before fits number i
     served-report case old new interval was node outcome before fits number is
 report-answered case old new interval was node (Err why) before fits number is looked kept =
     served-kept case old new was node fits number looked kept
+
+-- a report appends nothing
+pub report-few : (case : CaseShape) (old new : DeskView) (here : Option HeldView) (was node : NodeView) (answer : Result Outcome NodeFault)
+    → IfOk answer (AnswersReport case old new here was node) → appended answer ≤ 0
+report-few case old new None was node (Ok outcome) is = subst (λ (o : Outcome). entries_of o ≤ 0) (sym is.0) (omega arith)
+report-few case old new (Some held) was node (Ok (outcomes.Committed commit)) is = absurd is
+report-few case old new (Some held) was node (Ok _) is = omega arith
+report-few case old new here was node (Err why) is = omega arith
+
+-- a row no longer waits, or that fails
+pub settle-answered : (case : CaseShape) (old new : DeskView) (to : RowName) (id : RecordId) (was node : NodeView)
+    (answer : Result Outcome NodeFault) → Fits case old was → Fits case new node → node.number ≡ was.number
+    → IfOk answer (AnswersAck case.topology old new (held_on case.topology was.held to) to id was node)
+    → OnErr answer (HasLooked old new) → OnErr answer (HasKept was node) → HasServed case (appended answer) old new was node
+settle-answered case old new to id was node (Ok outcome) before fits number is looked kept =
+    served-settle case old new to id was node outcome before fits number is
+settle-answered case old new to id was node (Err why) before fits number is looked kept =
+    served-kept case old new was node fits number looked kept
+
+-- a record that was handled is so in all that is seen later
+pub handled-served : {case : CaseShape} {old new : DeskView} {was node : NodeView} {n : ℕ} (id : RecordId)
+    → HasServed case n old new was node → IfSome old.told (λ _. is_handled id old.seen ≡ true)
+    → IfSome new.told (λ _. is_handled id new.seen ≡ true)
+handled-served {old = old} {new = new} id served handled =
+    if-same old.told new.told (is_handled id old.seen ≡ true) (is_handled id new.seen ≡ true) served.worked.told
+    (λ was. subst (λ (h : List Entry). is_handled id h ≡ true) (sym served.worked.more)
+    (is_handled-more id old.seen served.worked.rest was)) handled

@@ -1,6 +1,6 @@
 -- What a worker's calls did is added up.
 use Rattle.std.proofs.Common.{◌≡◌, ◌∙◌, ◌≤◌, ◌+◌, ◌++◌, ℕ, List, refl, sym, ap, subst, arith, inl, inr, ⊎_elim}
-use Rattle.std.specs.Prelude.{Option, IfErr, Result, Ok, Err}
+use Rattle.std.specs.Prelude.{Option, IfErr, IfOk, Result, Ok, Err}
 use Rattle.mw_types.proofs.CauseLaws.{Rose-before}
 use Rattle.mw_types.specs.declared.entry.Entry.{Entry}
 use Rattle.run_history.specs.Cases.{CaseShape}
@@ -94,7 +94,7 @@ entries-few (outcomes.Committed commit) = omega arith
 entries-few _ = omega arith
 
 -- also where it may fail
-appended-few : (answer : Result Outcome NodeFault) → appended answer ≤ 1
+pub appended-few : (answer : Result Outcome NodeFault) → appended answer ≤ 1
 appended-few (Ok outcome) = entries-few outcome
 appended-few (Err why) = omega arith
 
@@ -111,6 +111,19 @@ pub tried-last : {case : CaseShape} {old mid new : DeskView} {was between node :
     → HasServed case 1 old new was node
 tried-last answer one two =
     served-then 0 (appended answer) 1 (let few = appended-few answer in omega (arith, few)) one two
+
+-- what the last try answers tells of all
+pub tried-answered : {case : CaseShape} {old mid new : DeskView} {was between node : NodeView} (answer : Result Outcome NodeFault)
+    → HasServed case 0 old mid was between → HasServed case (appended answer) mid new between node
+    → IfOk answer (λ outcome. HasServed case (entries_of outcome) old new was node)
+tried-answered (Ok outcome) one two = served-then 0 (entries_of outcome) (entries_of outcome) (omega arith) one two
+tried-answered (Err why) one two = tt
+
+-- a call that found nothing to do appended nothing
+pub served-nothing : {case : CaseShape} {old new : DeskView} {was node : NodeView} (outcome : Outcome) → outcome ≡ outcomes.Nothing
+    → HasServed case (entries_of outcome) old new was node → HasServed case 0 old new was node
+served-nothing {case} {old} {new} {was} {node} outcome is served =
+    subst (λ (o : Outcome). HasServed case (entries_of o) old new was node) is served
 
 -- ---- faults
 

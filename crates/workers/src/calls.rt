@@ -1,5 +1,5 @@
-//! The calls of a worker in its turn of work: each appends at most one entry, and no claim.
-ghost use Rattle.std.specs.Prelude.{◌≡◌, ◌<◌, IfErr, IfOk, IfSome};
+//! The calls of a worker in its turn of work: each appends at most one entry, and no claim, and a report none.
+ghost use Rattle.std.specs.Prelude.{◌≡◌, ◌<◌, ◌≤◌, IfErr, IfOk, IfSome};
 ghost use Rattle.node.specs.Fits.{Fits};
 ghost use Rattle.workers.specs.Serving.{HasServed, IsBusy, appended, lines_told};
 ghost use Rattle.workers.specs.Slices.{HasLinesOf, IsSliceFault};
@@ -18,6 +18,9 @@ pub(crate) trait Call<N: Seen> {
     // In which cases it may be made.
     ghost may: { Self → CaseShape → Type 0 };
 
+    // How many entries it appends at most.
+    ghost most: { Self → ℕ };
+
     // The injector of which it injects the next line, where it does that.
     ghost injector: { Self → Option ℕ };
 
@@ -34,6 +37,7 @@ pub(crate) trait Call<N: Seen> {
 
         ensures served { HasServed case.now (appended result) (D.view desk.old)
             (D.view desk.new) node.old node.new }
+        ensures few { appended result ≤ most self.now }
         ensures lines { (IsBusy result → ⊥) → IfSome (injector self.now) (λ part.
             IfOk result (λ outcome. HasLinesOf (lines_told outcome) case.now part node.old
             (D.view desk.old) (D.view desk.new))) }
@@ -50,6 +54,8 @@ impl<N: Seen> Call<N> for Commit {
     ghost use Rattle.std.specs.Prelude.{None, ⊤};
 
     ghost may = { λ call case. ⊤ };
+
+    ghost most = { λ call. 1 };
 
     ghost injector = { λ call. None };
 
@@ -80,6 +86,8 @@ impl<'a, N: Seen, C: Computation> Call<N> for Fire<'a, C> {
         × IsWorkOf case.topology (C.has call.work.now)
         (C.gives_record call.work.now) (C.gives_timer call.work.now) };
 
+    ghost most = { λ call. 1 };
+
     ghost injector = { λ call. None };
 
     fn make<D: Desk<Note = N>>(
@@ -104,6 +112,8 @@ impl<N: Seen> Call<N> for Inject {
     ghost use Rattle.topology.specs.Shapes.{injectors_of};
 
     ghost may = { λ call case. call.part < injectors_of case.topology };
+
+    ghost most = { λ call. 1 };
 
     ghost injector = { λ call. Some call.part };
 
@@ -130,6 +140,8 @@ impl<N: Seen> Call<N> for Purge {
 
     ghost may = { λ call case. ⊤ };
 
+    ghost most = { λ call. 1 };
+
     ghost injector = { λ call. None };
 
     fn make<D: Desk<Note = N>>(
@@ -154,6 +166,8 @@ impl<N: Seen> Call<N> for Report {
     ghost use Rattle.topology.specs.Rules.{interval_count};
 
     ghost may = { λ call case. call.interval < interval_count case.topology };
+
+    ghost most = { λ call. 0 };
 
     ghost injector = { λ call. None };
 

@@ -5,8 +5,8 @@
 //! each with a pass of its own. A turn of work goes by steps: marks that others have reported are loaded,
 //! what is prepared is written, messages are sent and taken, timers fire, lines are injected, ids are
 //! forgotten and own work is reported, each tried until nobody else has the turn to append. A round is one
-//! turn of work of each worker, all at once, each in a thread of its own, and a plan says what happens to
-//! workers between and in the rounds. Stands on `node`, `shared_book`, `plans` and the kit's
+//! turn of work of each worker, all at once, in as many threads as there are processors, and a plan says what
+//! happens to workers between and in the rounds. Stands on `node`, `shared_book`, `plans` and the kit's
 //! `crossbeam_queue`. Public contract: what is taken from a mailbox is of its office, as what was put is;
 //! `slice` appends so many entries at most, none of them a claim, loses a lease only to another, and fails
 //! only for its cause, and each injector that it had has 16 lines more, or all; after `rounds` the book
@@ -20,6 +20,7 @@
 
 mod acting;
 mod boxes;
+mod budget;
 mod calls;
 mod claim_tries;
 mod claiming;
@@ -28,6 +29,7 @@ mod crew;
 mod dealing;
 mod ended;
 mod hand;
+mod held;
 mod joining;
 mod learning;
 mod letter;

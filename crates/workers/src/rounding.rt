@@ -17,7 +17,19 @@ use std::sync::Wait;
 use std::thread;
 use std::thread::Threads;
 
-// Each worker does its turn of work, each in a thread of its own.
+// How many threads are to run beside each other: one on each processor, since more would only wait for each
+// other, but two at least, so that one worker may wait for another. It reads files, so it is asked once a run.
+pub(crate) fn threads_beside<R: Threads>(rt: &R) -> usize
+    ensures some { 0 < result }
+{
+    match thread::available_parallelism(rt) {
+        Ok(count) => count.get().max(2),
+        // There are no more workers.
+        Err(_) => 16,
+    }
+}
+
+// Each worker does its turn of work, in so many threads at most.
 fn each_works<R, K, C, G, J>(
     rt: &R,
     alloc: Global,
@@ -27,6 +39,7 @@ fn each_works<R, K, C, G, J>(
     boxes: &[Mailbox<Note<K>, J>],
     gate: &G,
     crew: &mut [Worker<K, J>],
+    threads: usize,
 )
 where
     R: Threads + Wait + Sync,
@@ -36,6 +49,7 @@ where
     J: Office + Send + Sync,
     requires case { shared.now.case.now ≡ case.now }
     requires some { 0 < length crew.old }
+    requires threads { 0 < threads }
     requires workers { All (IsWorker shared.now.table.shared.table_id case.now) crew.old }
     requires work { IsWorkOf case.now.topology (C.has work.now)
         (C.gives_record work.now) (C.gives_timer work.now) }
@@ -46,11 +60,11 @@ where
     ensures worked { HaveWorked shared.now.table.shared.table_id case.now boxes.now
         crew.old crew.new }
 {
-    let threads = crew.len();
+    let most = threads.min(crew.len());
     thread::for_each_mut(
         rt,
         crew,
-        threads,
+        most,
         &|_, worker: &mut Worker<K, J>|
             requires case { shared.now.case.now ≡ case.now }
             requires worker { IsWorker shared.now.table.shared.table_id case.now worker.old }
@@ -75,6 +89,7 @@ pub(crate) fn one_round<R, K, C, G, J>(
     boxes: &[Mailbox<Note<K>, J>],
     gate: &G,
     crew: &mut [Worker<K, J>],
+    threads: usize,
 )
 where
     R: Threads + Wait + Sync,
@@ -84,6 +99,7 @@ where
     J: Office + Send + Sync,
     requires case { shared.now.case.now ≡ case.now }
     requires some { 0 < length crew.old }
+    requires threads { 0 < threads }
     requires workers { AreWorkers shared.now.table.shared.table_id case.now crew.old }
     requires work { IsWorkOf case.now.topology (C.has work.now)
         (C.gives_record work.now) (C.gives_timer work.now) }
@@ -98,7 +114,7 @@ where
         crew.old crew.new }
     ensures passes { AllHavePasses case.now boxes.now crew.new }
 {
-    each_works(rt, alloc, shared, case, work, boxes, gate, crew);
+    each_works(rt, alloc, shared, case, work, boxes, gate, crew, threads);
 }
 
 // Whether a worker has a fault.

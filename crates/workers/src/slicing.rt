@@ -25,13 +25,16 @@ use std::sync::Wait;
 /// One turn of work of one worker, at the desk of a book that it shares with others.
 ///
 /// First it loads the marks that others have reported, so that what it reports may rise behind
-/// them. Then it goes by steps: what it has prepared is written, and what it held is sent; of the
-/// mailbox of each interval that it has it takes up to 64 messages; up to 16 timers of each
-/// computation fire; up to 16 lines of each injector are injected; in each fourth round, what is
-/// pending is to be sent again, and rows forget ids; what it has to send is put into mailboxes,
-/// where a message is dropped that finds no room; its own work is reported. Where another has the
-/// turn to append it tries again. A worker that stalls ends with the first record that it has
-/// handled, unwritten.
+/// them. Then it goes by steps. What it has prepared is written, and what it held is sent. Of the
+/// mailbox of each interval that it has, in their order, it takes up to 64 messages, and beyond
+/// them, up to 1,024 in all, as many as are left of 3,904 when 64 are set aside for each of these
+/// intervals that is still to come. Of each computation up to 16 timers fire for each interval of
+/// it that it has; where none is due it reports these intervals, and goes on where one is due then.
+/// Up to 16 lines of each injector are injected. In each fourth round, what is pending is to be
+/// sent again, and up to 8 times a row of each interval that has 64 ids or more forgets those of
+/// finished records. What it has to send is put into mailboxes, where a message is dropped that
+/// finds no room. Its own work is reported. Where another has the turn to append it tries again. A
+/// worker that stalls ends with the first record that it has handled, unwritten.
 ///
 /// It takes no interval, and appends at most 6,000 entries. It fails only where memory runs out,
 /// the keeper fails or the history is full; what it did before stands. The mailboxes are those of

@@ -1,5 +1,6 @@
 //! The steps of a turn of work that no message asks for.
 ghost use Rattle.std.specs.Prelude.{◌≡◌, ◌<◌, IfErr, IsTrue, OnOk};
+ghost use Rattle.topology.specs.Rules.{interval_count};
 ghost use Rattle.topology.specs.Shapes.{injectors_of};
 ghost use Rattle.node.specs.Fits.{Fits};
 ghost use Rattle.outbox.specs.Messages.{IsComputation};
@@ -10,6 +11,7 @@ ghost use Rattle.workers.specs.Slices.{HasInjected, HasLinesOf, IsSliceFault};
 
 use crate::calls::{Fire, Inject, Purge, Report};
 use crate::counts::{injectors_in, intervals_in, parts_in};
+use crate::held::{held_of, is_of};
 use crate::tries::until_free;
 use book::{Desk, Seen};
 use computations::Computation;
@@ -28,7 +30,88 @@ fn is_nothing(outcome: &Outcome) -> bool
     }
 }
 
-// Up to 16 timers of a part fire.
+// The own work of an interval is reported, where it is one of a part.
+fn report_of<R: Wait, N: Seen, D: Desk<Note = N>>(
+    rt: &R,
+    alloc: Global,
+    node: &mut Node<N>,
+    desk: &mut D,
+    case: &Case,
+    interval: u32,
+    part: u32,
+) -> Result<(), NodeFault>
+    requires fits { Fits case.now (D.view desk.old) node.old }
+    requires there { interval < interval_count case.now.topology }
+
+    ensures served { HasServed case.now 0 (D.view desk.old) (D.view desk.new)
+        node.old node.new }
+    ensures fault { IfErr result (IsSliceFault (D.view desk.old) (D.view desk.new)) }
+    ensures loan { D.loan desk.new ≡ D.loan desk.old }
+    ensures home { D.home desk.new ≡ D.home desk.old }
+{
+    if !is_of(case, interval, part) {
+        return Ok(());
+    }
+    until_free(rt, alloc, node, desk, case, &Report { interval })?;
+    Ok(())
+}
+
+// The own work of each interval of a part is reported.
+fn report_part<R: Wait, N: Seen, D: Desk<Note = N>>(
+    rt: &R,
+    alloc: Global,
+    node: &mut Node<N>,
+    desk: &mut D,
+    case: &Case,
+    part: u32,
+) -> Result<(), NodeFault>
+    requires fits { Fits case.now (D.view desk.old) node.old }
+
+    ensures served { HasServed case.now 0 (D.view desk.old) (D.view desk.new)
+        node.old node.new }
+    ensures fault { IfErr result (IsSliceFault (D.view desk.old) (D.view desk.new)) }
+    ensures loan { D.loan desk.new ≡ D.loan desk.old }
+    ensures home { D.home desk.new ≡ D.home desk.old }
+{
+    let intervals = intervals_in(case);
+    for interval in 0..intervals {
+        report_of(rt, alloc, node, desk, case, interval, part)?;
+    }
+    Ok(())
+}
+
+// The next timer of a part fires. Where none is due, own work is reported, and one that is due then fires. True
+// where none is due still.
+fn fire_next<R: Wait, N: Seen, D: Desk<Note = N>, C: Computation>(
+    rt: &R,
+    alloc: Global,
+    node: &mut Node<N>,
+    desk: &mut D,
+    case: &Case,
+    work: &C,
+    part: u32,
+) -> Result<bool, NodeFault>
+    requires fits { Fits case.now (D.view desk.old) node.old }
+    requires work { IsWorkOf case.now.topology (C.has work.now)
+        (C.gives_record work.now) (C.gives_timer work.now) }
+    requires part { IsComputation case.now.topology part }
+
+    ensures served { HasServed case.now 1 (D.view desk.old) (D.view desk.new)
+        node.old node.new }
+    ensures fault { IfErr result (IsSliceFault (D.view desk.old) (D.view desk.new)) }
+    ensures loan { D.loan desk.new ≡ D.loan desk.old }
+    ensures home { D.home desk.new ≡ D.home desk.old }
+{
+    let first = until_free(rt, alloc, node, desk, case, &Fire { work, part })?;
+    if !is_nothing(&first) {
+        return Ok(false);
+    }
+    report_part(rt, alloc, node, desk, case, part)?;
+    let next = until_free(rt, alloc, node, desk, case, &Fire { work, part })?;
+    Ok(is_nothing(&next))
+}
+
+// Up to so many timers of a part fire.
 fn fire_part<R: Wait, N: Seen, D: Desk<Note = N>, C: Computation>(
     rt: &R,
     alloc: Global,
@@ -37,28 +120,28 @@ fn fire_part<R: Wait, N: Seen, D: Desk<Note = N>, C: Computation>(
     case: &Case,
     work: &C,
     part: u32,
+    most: u32,
 ) -> Result<(), NodeFault>
     requires fits { Fits case.now (D.view desk.old) node.old }
     requires work { IsWorkOf case.now.topology (C.has work.now)
         (C.gives_record work.now) (C.gives_timer work.now) }
     requires part { IsComputation case.now.topology part }
 
-    ensures served { HasServed case.now 16 (D.view desk.old) (D.view desk.new)
+    ensures served { HasServed case.now most (D.view desk.old) (D.view desk.new)
         node.old node.new }
     ensures fault { IfErr result (IsSliceFault (D.view desk.old) (D.view desk.new)) }
     ensures loan { D.loan desk.new ≡ D.loan desk.old }
     ensures home { D.home desk.new ≡ D.home desk.old }
 {
-    for done in 0..16u32 {
-        let outcome = until_free(rt, alloc, node, desk, case, &Fire { work, part })?;
-        if is_nothing(&outcome) {
+    for done in 0..most {
+        if fire_next(rt, alloc, node, desk, case, work, part)? {
             return Ok(());
         }
     }
     Ok(())
 }
 
-// Up to 16 timers of each computation fire.
+// Up to 16 timers of each computation fire for each interval of it that the worker has.
 pub(crate) fn fire_all<R: Wait, N: Seen, D: Desk<Note = N>, C: Computation>(
     rt: &R,
     alloc: Global,
@@ -79,8 +162,12 @@ pub(crate) fn fire_all<R: Wait, N: Seen, D: Desk<Note = N>, C: Computation>(
 {
     let parts = parts_in(case);
     let injectors = injectors_in(case);
+    // 16 for each interval that there may be. Since no interval is of two parts, what is left never makes it less.
+    let mut left = 976u32;
     for part in injectors..parts {
-        fire_part(rt, alloc, node, desk, case, work, part)?;
+        let most = left.min(16 * held_of(node, case, part));
+        fire_part(rt, alloc, node, desk, case, work, part, most)?;
+        left -= most;
     }
     Ok(())
 }
@@ -139,7 +226,33 @@ pub(crate) fn inject_all<R: Wait, N: Seen, D: Desk<Note = N>>(
     Ok(())
 }
 
-// A row of each interval forgets ids, where it has 64.
+// Up to 8 rows of an interval forget ids, where they have 64.
+fn purge_at<R: Wait, N: Seen, D: Desk<Note = N>>(
+    rt: &R,
+    alloc: Global,
+    node: &mut Node<N>,
+    desk: &mut D,
+    case: &Case,
+    interval: u32,
+) -> Result<(), NodeFault>
+    requires fits { Fits case.now (D.view desk.old) node.old }
+
+    ensures served { HasServed case.now 8 (D.view desk.old) (D.view desk.new)
+        node.old node.new }
+    ensures fault { IfErr result (IsSliceFault (D.view desk.old) (D.view desk.new)) }
+    ensures loan { D.loan desk.new ≡ D.loan desk.old }
+    ensures home { D.home desk.new ≡ D.home desk.old }
+{
+    for done in 0..8u32 {
+        let outcome = until_free(rt, alloc, node, desk, case, &Purge { interval })?;
+        if is_nothing(&outcome) {
+            return Ok(());
+        }
+    }
+    Ok(())
+}
+
+// Up to 8 rows of each interval forget ids.
 pub(crate) fn purge_all<R: Wait, N: Seen, D: Desk<Note = N>>(
     rt: &R,
     alloc: Global,
@@ -149,7 +262,7 @@ pub(crate) fn purge_all<R: Wait, N: Seen, D: Desk<Note = N>>(
 ) -> Result<(), NodeFault>
     requires fits { Fits case.now (D.view desk.old) node.old }
 
-    ensures served { HasServed case.now 61 (D.view desk.old) (D.view desk.new)
+    ensures served { HasServed case.now 488 (D.view desk.old) (D.view desk.new)
         node.old node.new }
     ensures fault { IfErr result (IsSliceFault (D.view desk.old) (D.view desk.new)) }
     ensures loan { D.loan desk.new ≡ D.loan desk.old }
@@ -157,7 +270,7 @@ pub(crate) fn purge_all<R: Wait, N: Seen, D: Desk<Note = N>>(
 {
     let intervals = intervals_in(case);
     for interval in 0..intervals {
-        until_free(rt, alloc, node, desk, case, &Purge { interval })?;
+        purge_at(rt, alloc, node, desk, case, interval)?;
     }
     Ok(())
 }
@@ -172,7 +285,7 @@ pub(crate) fn report_all<R: Wait, N: Seen, D: Desk<Note = N>>(
 ) -> Result<(), NodeFault>
     requires fits { Fits case.now (D.view desk.old) node.old }
 
-    ensures served { HasServed case.now 61 (D.view desk.old) (D.view desk.new)
+    ensures served { HasServed case.now 0 (D.view desk.old) (D.view desk.new)
         node.old node.new }
     ensures fault { IfErr result (IsSliceFault (D.view desk.old) (D.view desk.new)) }
     ensures loan { D.loan desk.new ≡ D.loan desk.old }

@@ -1,5 +1,6 @@
 //! Messages that a worker takes from its mailboxes.
-ghost use Rattle.std.specs.Prelude.{◌≡◌, ◌<◌, false, length, IfErr, IsFalse, IsTrue};
+ghost use Rattle.std.specs.Prelude.{◌≡◌, ◌<◌, ◌≤◌, ◌-◌, false, length, IfErr, IfOk, IsFalse, IsTrue};
+ghost use Rattle.topology.specs.Shapes.{parts_of};
 ghost use Rattle.run_history.specs.Cases.{intervals_of};
 ghost use Rattle.crossbeam_queue.specs.Passes.{IsPassOf};
 ghost use Rattle.node.specs.Fits.{Fits};
@@ -10,16 +11,18 @@ ghost use Rattle.workers.specs.Passing.{ArePasses};
 ghost use Rattle.workers.specs.Serving.{HasServed};
 ghost use Rattle.workers.specs.Slices.{IsSliceFault};
 
+use crate::budget::Budget;
 use crate::calls::Commit;
 use crate::counts::intervals_in;
+use crate::held::held_in;
 use crate::mailbox::Mailbox;
 use crate::office::Office;
 use crate::passes::MailPass;
-use crate::tries::until_free;
+use crate::tries::{until_free, until_settled};
 use book::{Desk, Seen};
 use computations::Computation;
 use mw_ports::{Gate, Point};
-use node::{Message, Node, NodeFault, Outcome};
+use node::{Message, Node, NodeFault, Outcome, Receipt};
 use run_history::Case;
 use std::alloc::Global;
 use std::sync::Wait;
@@ -104,8 +107,37 @@ fn take_in<N: Seen, D: Desk<Note = N>, C: Computation>(
     Ok(is_prepared(&outcome))
 }
 
+// Takes in word that a record was handled, once it is out of its message.
+fn take_receipt<R: Wait, N: Seen, D: Desk<Note = N>>(
+    rt: &R,
+    alloc: Global,
+    node: &mut Node<N>,
+    desk: &mut D,
+    case: &Case,
+    receipt: Receipt<N>,
+) -> Result<bool, NodeFault>
+    requires fits { Fits case.now (D.view desk.old) node.old }
+    requires alone { (D.view desk.old).alone ≡ false }
+    requires part { receipt.to.part < parts_of case.now.topology }
+    requires known { N.book receipt.note ≡ (D.home desk.old).book }
+
+    ensures served { HasServed case.now 1 (D.view desk.old) (D.view desk.new)
+        node.old node.new }
+    ensures fault { IfErr result (IsSliceFault (D.view desk.old) (D.view desk.new)) }
+    ensures loan { D.loan desk.new ≡ D.loan desk.old }
+    ensures home { D.home desk.new ≡ D.home desk.old }
+{
+    let Receipt { to, id, note } = receipt;
+    desk.sound();
+    desk.meet(note);
+    desk.sound();
+    let _answer = until_settled(rt, alloc, node, desk, case, &to, id)?;
+    Ok(false)
+}
+
 // Takes in word that a record was handled.
-fn take_word<N: Seen, D: Desk<Note = N>>(
+fn take_word<R: Wait, N: Seen, D: Desk<Note = N>>(
+    rt: &R,
     alloc: Global,
     node: &mut Node<N>,
     desk: &mut D,
@@ -124,9 +156,10 @@ fn take_word<N: Seen, D: Desk<Note = N>>(
     ensures loan { D.loan desk.new ≡ D.loan desk.old }
     ensures home { D.home desk.new ≡ D.home desk.old }
 {
-    let outcome = node.take_ack(alloc, desk, case, message)?;
-    let _answer = outcome;
-    Ok(false)
+    match message {
+        Message::Ack { receipt } => take_receipt(rt, alloc, node, desk, case, receipt),
+        Message::Deliver { parcel: _ } => unreachable!(),
+    }
 }
 
 // Takes a record. True where the work is to stay prepared, since the worker stalls.
@@ -191,11 +224,11 @@ pub(crate) fn take_one<R: Wait, N: Seen, D: Desk<Note = N>, C: Computation, G: G
     if is_record(&message) {
         take_record(rt, alloc, node, desk, case, work, message, stall, gate)
     } else {
-        take_word(alloc, node, desk, case, message)
+        take_word(rt, alloc, node, desk, case, message)
     }
 }
 
-// Takes up to 64 messages of a mailbox. True where the worker stalls.
+// Takes up to so many messages of a mailbox. Answers how many it took, and whether the worker stalls.
 fn take_from<R: Wait, N: Seen, D: Desk<Note = N>, C: Computation, G: Gate, J: Office>(
     rt: &R,
     alloc: Global,
@@ -205,9 +238,10 @@ fn take_from<R: Wait, N: Seen, D: Desk<Note = N>, C: Computation, G: Gate, J: Of
     work: &C,
     mailbox: &Mailbox<N, J>,
     pass: &mut MailPass<N, J>,
+    most: u32,
     stall: bool,
     gate: &G,
-) -> Result<bool, NodeFault>
+) -> Result<(u32, bool), NodeFault>
     requires fits { Fits case.now (D.view desk.old) node.old }
     requires work { IsWorkOf case.now.topology (C.has work.now)
         (C.gives_record work.now) (C.gives_timer work.now) }
@@ -216,25 +250,28 @@ fn take_from<R: Wait, N: Seen, D: Desk<Note = N>, C: Computation, G: Gate, J: Of
     requires book { (D.home desk.old).book ≡ J.book }
     requires pass { IsPassOf mailbox.now.line pass.old.pass }
 
-    ensures served { HasServed case.now 64 (D.view desk.old) (D.view desk.new)
+    ensures served { HasServed case.now most (D.view desk.old) (D.view desk.new)
         node.old node.new }
+    ensures taken { IfOk result (λ taken. HasServed case.now taken.0 (D.view desk.old)
+        (D.view desk.new) node.old node.new) }
+    ensures few { IfOk result (λ taken. taken.0 ≤ most) }
     ensures fault { IfErr result (IsSliceFault (D.view desk.old) (D.view desk.new)) }
     ensures pass { IsPassOf mailbox.now.line pass.new.pass }
     ensures loan { D.loan desk.new ≡ D.loan desk.old }
     ensures home { D.home desk.new ≡ D.home desk.old }
 {
-    for done in 0..64u32 {
+    for done in 0..most {
         let Some(message) = mailbox.pop(rt, pass) else {
-            return Ok(false);
+            return Ok((done, false));
         };
         if take_one(rt, alloc, node, desk, case, work, message, stall, gate)? {
-            return Ok(true);
+            return Ok((done + 1, true));
         }
     }
-    Ok(false)
+    Ok((most, false))
 }
 
-// Takes what lies in the mailbox of an interval, where it has that. True where the worker stalls.
+// Takes what may be taken of the mailbox of an interval, where it has that. True where the worker stalls.
 fn take_at<R: Wait, N: Seen, D: Desk<Note = N>, C: Computation, G: Gate, J: Office>(
     rt: &R,
     alloc: Global,
@@ -245,6 +282,7 @@ fn take_at<R: Wait, N: Seen, D: Desk<Note = N>, C: Computation, G: Gate, J: Offi
     boxes: &[Mailbox<N, J>],
     passes: &mut [MailPass<N, J>],
     interval: u32,
+    budget: &mut Budget,
     stall: bool,
     gate: &G,
 ) -> Result<bool, NodeFault>
@@ -256,9 +294,12 @@ fn take_at<R: Wait, N: Seen, D: Desk<Note = N>, C: Computation, G: Gate, J: Offi
     requires book { (D.home desk.old).book ≡ J.book }
     requires passes { ArePasses (length (intervals_of case.now.topology)) boxes.now passes.old }
     requires interval { interval < length (intervals_of case.now.topology) }
+    requires budget { budget.old ≤ 3904 }
 
-    ensures served { HasServed case.now 64 (D.view desk.old) (D.view desk.new)
-        node.old node.new }
+    // It takes no more than goes from the budget.
+    ensures served { HasServed case.now (budget.old - budget.new) (D.view desk.old)
+        (D.view desk.new) node.old node.new }
+    ensures less { budget.new ≤ budget.old }
     ensures fault { IfErr result (IsSliceFault (D.view desk.old) (D.view desk.new)) }
     ensures passes { ArePasses (length (intervals_of case.now.topology)) boxes.now passes.new }
     ensures loan { D.loan desk.new ≡ D.loan desk.old }
@@ -270,12 +311,17 @@ fn take_at<R: Wait, N: Seen, D: Desk<Note = N>, C: Computation, G: Gate, J: Offi
     let at = interval as usize;
     let mailbox = &boxes[at];
     let pass = &mut passes[at];
-    take_from(
-        rt, alloc, node, desk, case, work, mailbox, pass, stall, gate,
-    )
+    let most = budget.take_out();
+    let (taken, stalls) = take_from(
+        rt, alloc, node, desk, case, work, mailbox, pass, most, stall, gate,
+    )?;
+    budget.put_back(most - taken);
+    Ok(stalls)
 }
 
-// Takes what lies in the mailboxes of the intervals that it has. True where the worker stalls.
+// Takes what lies in the mailboxes of the intervals that it has: of each, in their order, up to 64 messages,
+// and beyond them, up to 1,024 in all, as many as are left of 3,904 when 64 are set aside for each that is still
+// to come. True where the worker stalls.
 pub(crate) fn take_all<R: Wait, N: Seen, D: Desk<Note = N>, C: Computation, G: Gate, J: Office>(
     rt: &R,
     alloc: Global,
@@ -304,9 +350,11 @@ pub(crate) fn take_all<R: Wait, N: Seen, D: Desk<Note = N>, C: Computation, G: G
     ensures home { D.home desk.new ≡ D.home desk.old }
 {
     let intervals = intervals_in(case);
+    let mut budget = Budget::of(held_in(node, case));
+    let left = &mut budget;
     for interval in 0..intervals {
         if take_at(
-            rt, alloc, node, desk, case, work, boxes, passes, interval, stall, gate,
+            rt, alloc, node, desk, case, work, boxes, passes, interval, left, stall, gate,
         )? {
             return Ok(true);
         }

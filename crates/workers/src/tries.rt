@@ -1,11 +1,14 @@
 //! A call of a worker that is tried until nobody else has the turn.
-ghost use Rattle.std.specs.Prelude.{◌≡◌, IfErr, IfOk, IfSome, IsFalse, IsTrue};
+ghost use Rattle.std.specs.Prelude.{◌≡◌, ◌<◌, true, IfErr, IfOk, IfSome, IsFalse, IsTrue};
+ghost use Rattle.run_history.specs.Finished.{is_handled};
+ghost use Rattle.topology.specs.Shapes.{parts_of};
 ghost use Rattle.node.specs.Fits.{Fits};
-ghost use Rattle.workers.specs.Serving.{HasServed, IsBusy, lines_told};
+ghost use Rattle.workers.specs.Serving.{HasServed, IsBusy, entries_of, lines_told};
 ghost use Rattle.workers.specs.Slices.{HasLinesOf, IsSliceFault};
 
 use crate::calls::Call;
 use book::{Desk, Seen};
+use mw_types::{RecordId, RowName};
 use node::{Node, NodeFault, Outcome};
 use run_history::Case;
 use std::alloc::Global;
@@ -35,8 +38,10 @@ pub(crate) fn until_free<R: Wait, N: Seen, D: Desk<Note = N>, A: Call<N>>(
     requires fits { Fits case.now (D.view desk.old) node.old }
     requires may { A.may call.now case.now }
 
-    ensures served { HasServed case.now 1 (D.view desk.old) (D.view desk.new)
-        node.old node.new }
+    ensures served { HasServed case.now (A.most call.now) (D.view desk.old)
+        (D.view desk.new) node.old node.new }
+    ensures answered { IfOk result (λ outcome. HasServed case.now (entries_of outcome)
+        (D.view desk.old) (D.view desk.new) node.old node.new) }
     ensures lines { IfSome (A.injector call.now) (λ part. IfOk result (λ outcome.
         HasLinesOf (lines_told outcome) case.now part node.old
         (D.view desk.old) (D.view desk.new))) }
@@ -46,6 +51,39 @@ pub(crate) fn until_free<R: Wait, N: Seen, D: Desk<Note = N>, A: Call<N>>(
 {
     for _ in rt.forever() {
         let answer = call.make(alloc, node, desk, case);
+        if !is_busy(&answer) {
+            return answer;
+        }
+        thread::yield_now();
+    }
+    unreachable!()
+}
+
+// Has a row no longer wait for a record that was handled, again and again while another has the turn: word
+// that was taken out of its message is not dropped.
+pub(crate) fn until_settled<R: Wait, N: Seen, D: Desk<Note = N>>(
+    rt: &R,
+    alloc: Global,
+    node: &mut Node<N>,
+    desk: &mut D,
+    case: &Case,
+    to: &RowName,
+    id: RecordId,
+) -> Result<Outcome, NodeFault>
+    requires fits { Fits case.now (D.view desk.old) node.old }
+    requires part { to.now.part < parts_of case.now.topology }
+    requires handled { IfSome (D.view desk.old).told
+        (λ _. is_handled id (D.view desk.old).seen ≡ true) }
+
+    ensures free { IsBusy result → ⊥ }
+    ensures served { HasServed case.now 1 (D.view desk.old) (D.view desk.new)
+        node.old node.new }
+    ensures fault { IfErr result (IsSliceFault (D.view desk.old) (D.view desk.new)) }
+    ensures loan { D.loan desk.new ≡ D.loan desk.old }
+    ensures home { D.home desk.new ≡ D.home desk.old }
+{
+    for _ in rt.forever() {
+        let answer = node.settle(alloc, desk, case, to, id);
         if !is_busy(&answer) {
             return answer;
         }

@@ -64,7 +64,7 @@ fn tidy<R: Wait, N: Seen, D: Desk<Note = N>>(
 ) -> Result<(), NodeFault>
     requires fits { Fits case.now (D.view desk.old) node.old }
 
-    ensures served { HasServed case.now 61 (D.view desk.old) (D.view desk.new)
+    ensures served { HasServed case.now 488 (D.view desk.old) (D.view desk.new)
         node.old node.new }
     ensures fault { IfErr result (IsSliceFault (D.view desk.old) (D.view desk.new)) }
     ensures loan { D.loan desk.new ≡ D.loan desk.old }
@@ -122,7 +122,7 @@ fn send_out<R: Wait, N: Seen, D: Desk<Note = N>, J: Office>(
     Ok(())
 }
 
-// Up to 16 timers of each computation fire, and up to 16 lines of each injector are injected.
+// Timers fire, and up to 16 lines of each injector are injected.
 fn work_on<R: Wait, N: Seen, D: Desk<Note = N>, C: Computation>(
     rt: &R,
     alloc: Global,
@@ -166,7 +166,7 @@ fn go_on<R: Wait, N: Seen, D: Desk<Note = N>, C: Computation, J: Office>(
     requires book { (D.home desk.old).book ≡ J.book }
     requires passes { ArePasses (length (intervals_of case.now.topology)) boxes.now passes.old }
 
-    ensures served { HasServed case.now 1354 (D.view desk.old) (D.view desk.new)
+    ensures served { HasServed case.now 1720 (D.view desk.old) (D.view desk.new)
         node.old node.new }
     ensures injected { OnOk result
         (HasInjected case.now node.old (D.view desk.old) (D.view desk.new)) }

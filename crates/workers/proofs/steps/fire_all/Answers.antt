@@ -1,11 +1,12 @@
-use Rattle.std.proofs.Common.{◌∙◌, ◌+◌, ◌*◌, refl, arith, rules}
+use Rattle.std.proofs.Common.{◌∙◌, ◌+◌, ◌-◌, refl, arith, rules}
 use Rattle.workers.specs.Slices.{IsSliceFault}
 use Rattle.workers.proofs.Serving.{fault-after, served-less, served-not, served-then}
 use Rattle.workers.proofs.steps.fire_all.Goals as goal
 
 pub loop-part-init : goal.loop-part-init
 loop-part-init g c = record {
-  served = served-less 0 (16 * c.injectors_in-injectors.result) (omega arith) (served-not c.requires.fits);
+  served = served-not c.requires.fits;
+  few = omega arith;
   low = (omega (arith, c.injectors_in-injectors.ensures.count));
   loan = refl;
   home = refl;
@@ -13,8 +14,8 @@ loop-part-init g c = record {
 
 -- a call that fails
 pub returns-in_err-fire_part-clause-served : goal.returns-in_err-fire_part-clause-served
-returns-in_err-fire_part-clause-served g c = served-then (16 * c.loop-part.part) 16 976
-    (omega (arith, c.loop-part-test.true, c.parts_in-parts.ensures.few)) c.loop-part.invariant.served c.fire_part.ensures.served
+returns-in_err-fire_part-clause-served g c = served-then (976 - c.loop-part.left) c.min-most.result 976
+    (omega (arith, c.loop-part.invariant.few, c.min-most.ensures)) c.loop-part.invariant.served c.fire_part.ensures.served
 
 -- has its cause
 pub returns-in_err-fire_part-clause-fault : goal.returns-in_err-fire_part-clause-fault
@@ -24,8 +25,10 @@ returns-in_err-fire_part-clause-fault g c =
 
 pub loop-part-preserved : goal.loop-part-preserved
 loop-part-preserved g c = record {
-  served = served-then (16 * c.loop-part.part) 16 (16 * (c.loop-part.part + 1)) (omega arith) c.loop-part.invariant.served
+  served = served-then (976 - c.loop-part.left) c.min-most.result (976 - (c.loop-part.left - c.min-most.result))
+      (omega (arith, c.loop-part.invariant.few, c.min-most.ensures)) c.loop-part.invariant.served
       c.fire_part.ensures.served;
+  few = omega (arith, c.loop-part.invariant.few);
   low = let low = c.loop-part.invariant.low in omega (arith, low);
   loan = c.fire_part.ensures.loan ∙ c.loop-part.invariant.loan;
   home = c.fire_part.ensures.home ∙ c.loop-part.invariant.home;
@@ -33,5 +36,5 @@ loop-part-preserved g c = record {
 
 -- the loop is done
 pub returns-clause-served : goal.returns-clause-served
-returns-clause-served g c = served-less (16 * c.loop-part.part) 976 (grind (arith, c.parts_in-parts.ensures.few))
+returns-clause-served g c = served-less (976 - c.loop-part.left) 976 (omega arith)
     c.loop-part.invariant.served

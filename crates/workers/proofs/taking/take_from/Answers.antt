@@ -1,5 +1,5 @@
 use Rattle.std.proofs.Common.{◌∙◌, ◌+◌, refl, arith}
-use Rattle.workers.proofs.Serving.{served-not, served-then}
+use Rattle.workers.proofs.Serving.{served-less, served-not, served-then}
 use Rattle.workers.proofs.taking.take_from.Goals as goal
 
 pub loop-done-init : goal.loop-done-init
@@ -16,13 +16,17 @@ take_one-requires-clause-alone g c = c.loop-done.invariant.served.worked.alone �
 
 -- a message was taken, and that failed
 pub returns-in_err-take_one-clause-served : goal.returns-in_err-take_one-clause-served
-returns-in_err-take_one-clause-served g c = served-then c.loop-done.done 1 64 (omega (arith, c.loop-done-test.true))
+returns-in_err-take_one-clause-served g c = served-then c.loop-done.done 1 c.args.most (omega (arith, c.loop-done-test.true))
     c.loop-done.invariant.served c.take_one.ensures.served
 
 -- the worker stalls
 pub returns-then-branch-clause-served : goal.returns-then-branch-clause-served
-returns-then-branch-clause-served g c = served-then c.loop-done.done 1 64 (omega (arith, c.loop-done-test.true))
+returns-then-branch-clause-served g c = served-then c.loop-done.done 1 c.args.most (omega (arith, c.loop-done-test.true))
     c.loop-done.invariant.served c.take_one.ensures.served
+
+pub returns-then-branch-clause-taken : goal.returns-then-branch-clause-taken
+returns-then-branch-clause-taken g c = served-then c.loop-done.done 1 (c.loop-done.done + 1) (omega arith) c.loop-done.invariant.served
+    c.take_one.ensures.served
 
 pub loop-done-preserved : goal.loop-done-preserved
 loop-done-preserved g c = record {

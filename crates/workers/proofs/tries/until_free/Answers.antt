@@ -1,16 +1,22 @@
-use Rattle.std.proofs.Common.{◌∙◌, refl}
-use Rattle.workers.specs.Serving.{IsBusy}
+use Rattle.std.proofs.Common.{◌∙◌, ◌+◌, refl, arith}
+use Rattle.workers.specs.Serving.{IsBusy, appended}
 use Rattle.workers.proofs.LineLaws.{lines-last}
-use Rattle.workers.proofs.Serving.{faults-after, served-not, tried-again, tried-last}
+use Rattle.workers.proofs.Serving.{faults-after, served-not, served-then, tried-again, tried-answered}
 use Rattle.workers.proofs.tries.until_free.Goals as goal
 
 pub loop-init : goal.loop-init
 loop-init g c = record { served = served-not c.requires.fits; loan = refl; home = refl }
 
--- the last try appended at most one entry
+-- the last try appended what it may
 pub returns-then-not-is_busy-clause-served : goal.returns-then-not-is_busy-clause-served
 returns-then-not-is_busy-clause-served g c =
-    tried-last c.make-answer.result c.loop.invariant.served c.make-answer.ensures.served
+    served-then 0 (appended c.make-answer.result) (g.A.Call.most c.args.call.now)
+    (let few = c.make-answer.ensures.few in omega (arith, few)) c.loop.invariant.served c.make-answer.ensures.served
+
+-- and what it answers
+pub returns-then-not-is_busy-clause-answered : goal.returns-then-not-is_busy-clause-answered
+returns-then-not-is_busy-clause-answered g c =
+    tried-answered c.make-answer.result c.loop.invariant.served c.make-answer.ensures.served
 
 -- and failed for its cause
 pub returns-then-not-is_busy-clause-fault : goal.returns-then-not-is_busy-clause-fault

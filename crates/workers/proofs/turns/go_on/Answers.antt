@@ -11,26 +11,26 @@ send_out-requires-clause-book g c = ap (λ (h : Home). h.book) (c.tidy.ensures.h
 
 -- timers fired, and lines were injected
 pub returns-in_err-work_on-clause-served : goal.returns-in_err-work_on-clause-served
-returns-in_err-work_on-clause-served g c = served-less 1232 1354 (omega arith) c.work_on.ensures.served
+returns-in_err-work_on-clause-served g c = served-less 1232 1720 (omega arith) c.work_on.ensures.served
 
 -- rows forgot ids
 pub returns-in_err-tidy-clause-served : goal.returns-in_err-tidy-clause-served
-returns-in_err-tidy-clause-served g c = served-then 1232 61 1354 (omega arith) c.work_on.ensures.served c.tidy.ensures.served
+returns-in_err-tidy-clause-served g c = served-then 1232 488 1720 (omega arith) c.work_on.ensures.served c.tidy.ensures.served
 
 -- messages were sent
 pub returns-in_err-send_out-clause-served : goal.returns-in_err-send_out-clause-served
-returns-in_err-send_out-clause-served g c = served-then 1293 0 1354 (omega arith)
-    (served-then 1232 61 1293 (omega arith) c.work_on.ensures.served c.tidy.ensures.served) c.send_out.ensures.served
+returns-in_err-send_out-clause-served g c = served-then 1720 0 1720 (omega arith)
+    (served-then 1232 488 1720 (omega arith) c.work_on.ensures.served c.tidy.ensures.served) c.send_out.ensures.served
 
 -- own work was reported
 pub returns-clause-served : goal.returns-clause-served
-returns-clause-served g c = served-then 1293 61 1354 (omega arith)
-    (served-then 1293 0 1293 (omega arith) (served-then 1232 61 1293 (omega arith) c.work_on.ensures.served c.tidy.ensures.served)
+returns-clause-served g c = served-then 1720 0 1720 (omega arith)
+    (served-then 1720 0 1720 (omega arith) (served-then 1232 488 1720 (omega arith) c.work_on.ensures.served c.tidy.ensures.served)
     c.send_out.ensures.served) c.report_all.ensures.served
 
 -- behind that each injector's lines are injected still
 pub returns-clause-injected : goal.returns-clause-injected
 returns-clause-injected g c =
-    let tidied = served-then 61 0 61 (omega arith) c.tidy.ensures.served c.send_out.ensures.served in
-    let rest = served-then 61 61 122 (omega arith) tidied c.report_all.ensures.served in
+    let tidied = served-then 488 0 488 (omega arith) c.tidy.ensures.served c.send_out.ensures.served in
+    let rest = served-then 488 0 488 (omega arith) tidied c.report_all.ensures.served in
     on_ok-anyway c.report_all.result (injected-before c.work_on.ensures.served rest c.in_ok-work_on.ensures.injected)

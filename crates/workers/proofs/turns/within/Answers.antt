@@ -30,7 +30,7 @@ returns-then-orders-clause-served g c = served-then 1 3904 6000 (omega arith) c.
 
 -- or it went on
 pub returns-clause-served : goal.returns-clause-served
-returns-clause-served g c = served-then 3905 1354 6000 (omega arith)
+returns-clause-served g c = served-then 3905 1720 6000 (omega arith)
     (served-then 1 3904 3905 (omega arith) c.settle_up.ensures.served c.take_all.ensures.served) c.go_on.ensures.served
 
 -- and injected lines

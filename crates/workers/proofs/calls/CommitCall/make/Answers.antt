@@ -4,6 +4,7 @@ use Rattle.node.specs.Asking.{work_asked}
 use Rattle.workers.specs.Slices.{IsSliceFault}
 use Rattle.workers.proofs.CallLaws.{commit-answered}
 use Rattle.workers.proofs.FaultLaws.{fault-asked}
+use Rattle.workers.proofs.Serving.{appended-few}
 use Rattle.workers.proofs.calls.CommitCall.make.Goals as goal
 
 -- the call appends what it answers
@@ -13,6 +14,9 @@ returns-clause-served g c =
     let new : DeskView = g.D.Desk.view c.commit.new.desk in
     commit-answered c.args.case.now old new c.args.node.now c.commit.new.self c.commit.result c.requires.fits
     c.commit.ensures.fits c.commit.ensures.number c.commit.ensures.answers c.commit.ensures.looked c.commit.ensures.kept
+
+pub returns-clause-few : goal.returns-clause-few
+returns-clause-few g c = appended-few c.commit.result
 
 -- and fails for its cause
 pub returns-clause-fault : goal.returns-clause-fault

@@ -5,6 +5,7 @@ use Rattle.workers.specs.Slices.{IsSliceFault}
 use Rattle.workers.proofs.CallLaws.{inject-answered}
 use Rattle.workers.proofs.FaultLaws.{fault-asked}
 use Rattle.workers.proofs.LineLaws.{lines-answered}
+use Rattle.workers.proofs.Serving.{appended-few}
 use Rattle.workers.proofs.calls.InjectCall.make.Goals as goal
 
 -- the call appends what it answers
@@ -14,6 +15,9 @@ returns-clause-served g c =
     let new : DeskView = g.D.Desk.view c.inject.new.desk in
     inject-answered c.args.case.now old new c.args.self.now.part c.args.node.now c.inject.new.self c.inject.result c.requires.fits
     c.inject.ensures.fits c.inject.ensures.number c.inject.ensures.answers c.inject.ensures.looked c.inject.ensures.kept
+
+pub returns-clause-few : goal.returns-clause-few
+returns-clause-few g c = appended-few c.inject.result
 
 -- and fails for its cause
 pub returns-clause-fault : goal.returns-clause-fault

@@ -1,0 +1,11 @@
+use Rattle.std.proofs.Common.{◌≡◌}
+use Rattle.workers.specs.Serving.{HasServed}
+use Rattle.workers.proofs.steps.report_part.Given as goal
+
+-- no entry so far
+abbrev pub invariant-loop-interval : goal.invariant-loop-interval
+invariant-loop-interval g l = record {
+  served : HasServed l.case 0 (g.D.Desk.view l.initial.desk) (g.D.Desk.view l.desk) l.initial.node l.node;
+  loan : g.D.Desk.loan l.desk ≡ g.D.Desk.loan l.initial.desk;
+  home : g.D.Desk.home l.desk ≡ g.D.Desk.home l.initial.desk;
+}
