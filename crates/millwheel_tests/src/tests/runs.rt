@@ -2,6 +2,7 @@
 //! writes too.
 mod gates;
 mod refusals;
+mod senders;
 mod whole;
 
 use super::calls::{SOLO, keeper, sink};
