@@ -19,6 +19,7 @@ pub mod PurgeLaws
 pub mod FireLaws
 pub mod GoLaws
 pub mod ReportLaws
+pub mod FedLaws
 pub mod CallLaws
 pub mod RecordStands
 pub mod PurgeLoop

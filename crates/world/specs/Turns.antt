@@ -21,7 +21,7 @@ use Rattle.run_history.specs.Marks.{own_work}
 use Rattle.run_history.specs.Runs.{Run, cached, row_of, run_of}
 use Rattle.run_history.specs.Finished.{all_pending, injectors_left, is_handled}
 use Rattle.run_history.specs.Fences.{Begins, IsCurrent, interval_of}
-use Rattle.watermark.specs.Marks.{marks_of}
+use Rattle.watermark.specs.Marks.{feeding_marks, marks_of}
 use Rattle.book.specs.Books.{BookView}
 use Rattle.book.specs.Conditions.{IsOwnWork}
 use Rattle.book.specs.DeskReasons.{IsDamageOf}
@@ -271,6 +271,12 @@ abbrev pub HasReported : BookView → BookView → ℕ → Type 0
 HasReported old new interval =
     (bounds : Bounds) → slice_get (intervals_of old.case.topology) interval ≡ Some bounds →
     new.marks ≡ with_report old.case (run_of old.case.topology old.history) old.marks (interval, bounds)
+
+-- this is the least of the marks that feed each interval of a part
+abbrev pub IsFedBy : BookView → ℕ → ℕ → Type 0
+IsFedBy book part most = (interval : ℕ) (bounds : Bounds) →
+    slice_get (intervals_of book.case.topology) interval ≡ Some bounds → bounds.part ≡ part →
+    most ≡ least (feeding_marks book.case.topology interval book.marks)
 
 -- this is the own work of what is held of an interval, as it is held and as it is known
 pub record IsOwnOf (book : BookView) (all : List (Option HeldView)) (interval own : ℕ) : Type 0 where

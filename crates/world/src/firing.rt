@@ -1,6 +1,8 @@
 //! What a drain does where all is acknowledged: the low watermarks are found, and a due timer fires.
-ghost use Rattle.std.specs.Prelude.{◌≡◌, ◌<◌, ◌≤◌, IfErr, IfOk, OnOk, None, true, false};
+ghost use Rattle.std.specs.Prelude.{◌≡◌, ◌<◌, ◌≤◌, IfErr, IfOk, OnOk, None, Some, slice_get, true, false};
+ghost use Rattle.key_intervals.specs.declared.bounds.Bounds.{Bounds};
 ghost use Rattle.topology.specs.Rules.{interval_count};
+ghost use Rattle.run_history.specs.Cases.{intervals_of};
 ghost use Rattle.run_history.specs.Fences.{interval_of};
 ghost use Rattle.run_history.specs.Runs.{run_of};
 ghost use Rattle.node.specs.Works.{IsWorkOf};
@@ -8,21 +10,28 @@ ghost use Rattle.outbox.specs.Messages.{IsComputation};
 ghost use Rattle.run_history.specs.Watermarks.{least};
 ghost use Rattle.book.specs.Books.{core_of};
 ghost use Rattle.book.specs.Lawful.{IsLawful};
-ghost use Rattle.watermark.specs.Marks.{marks_of};
+ghost use Rattle.watermark.specs.Marks.{feeding_marks, marks_of};
 ghost use Rattle.node.specs.Asking.{IsNextTimer, MayAskFire};
 ghost use Rattle.node.specs.FireSteps.{IsLeftByHandler, IsSetAt, IsTimerToFire};
 ghost use Rattle.world.specs.ReportRounds.{marks_after_round};
-ghost use Rattle.world.specs.Turns.{AreExact, HasAskedOne, HasFailed, HasReported, HasStepped, HasTurned, IsAtWork, IsFullAsking, IsFullUnended, IsOwnOf, IsQuiet, IsSettled, WhereTold, worker_of};
+ghost use Rattle.world.specs.Turns.{AreExact, HasAskedOne, HasFailed, HasReported, HasStepped, HasTurned, IsAtWork, IsFedBy, IsFullAsking, IsFullUnended, IsOwnOf, IsQuiet, IsSettled, WhereTold, worker_of};
 
 use crate::writes::write;
 use book::{Book, Desk, OwnDesk, Proposal};
 use computations::Computation;
 use holdings::{Holdings, RowTimer};
-use mw_types::{Effects, NoMemory};
+use mw_types::{END, Effects, NoMemory};
 use node::{NodeFault, effects_of, first_due};
 use row_keeper::Keeper;
 use std::alloc::Global;
 use watermark::{inputs, low};
+
+// A part, and the least mark of those that feed each of its intervals.
+#[derive(Clone, Copy)]
+struct Fed {
+    part: u32,
+    most: u64,
+}
 
 // Reports the own work of each interval, in the order of their numbers.
 pub(crate) fn report_all<'a, K: Keeper>(
@@ -39,21 +48,48 @@ pub(crate) fn report_all<'a, K: Keeper>(
     ensures memory { IfErr result (λ why. why ≡ NodeFault.NoMemory) }
 {
     let case = book.case();
+    // No interval is of this part, so the first one asks.
+    let mut fed = Fed {
+        part: case.topology.parts(),
+        most: END,
+    };
     for interval in 0..case.intervals().count() {
-        report(alloc, book, held, interval)?;
+        fed = fed_at(book, interval, fed);
+        report(alloc, book, held, interval, fed.most)?;
     }
     Ok(())
 }
 
-// Reports the own work of one interval, where that can raise its mark.
+// What feeds an interval: what fed the last one, where both are of one part, since no part feeds itself.
+fn fed_at<'a, K: Keeper>(book: &Book<'a, K>, interval: u32, last: Fed) -> Fed
+    requires there { interval < interval_count book.now.case.topology }
+    requires last { WhereTold book.now (IsFedBy book.now last.part last.most) }
+    ensures fed { WhereTold book.now (IsFedBy book.now result.part result.most) }
+    ensures part { (bounds : Bounds) →
+        slice_get (intervals_of book.now.case.topology) interval ≡ Some bounds →
+        bounds.part ≡ result.part }
+{
+    let case = book.case();
+    let part = case.intervals().bounds(interval).part;
+    if part == last.part {
+        return last;
+    }
+    let most = inputs(case, interval, book.marks());
+    Fed { part, most }
+}
+
+// Reports the own work of one interval, where that can raise its mark: those that feed it have come up to `most`.
 fn report<'a, K: Keeper>(
     alloc: Global,
     book: &mut Book<'a, K>,
     held: &mut Holdings,
     interval: u32,
+    most: u64,
 ) -> Result<(), NodeFault>
     requires at_work { IsAtWork book.old (worker_of held.old) }
     requires there { interval < interval_count book.old.case.topology }
+    requires most { WhereTold book.old
+        (most ≡ least (feeding_marks book.old.case.topology interval book.old.marks)) }
     ensures stepped { HasStepped book.old book.new None }
     ensures at_work { OnOk result (IsAtWork book.new (worker_of held.new)) }
     ensures reported { OnOk result (WhereTold book.old (HasReported book.old book.new interval)) }
@@ -65,7 +101,6 @@ fn report<'a, K: Keeper>(
     let _parts = case.topology.parts();
     let _all = case.intervals();
     // A mark that has come up to those that feed its interval cannot rise.
-    let most = inputs(case, interval, book.marks());
     let mark = book.mark(interval);
     if most <= mark {
         return Ok(());

@@ -20,6 +20,8 @@ mod starts;
 mod tables;
 mod threads;
 mod trials;
+mod turn_calls;
+mod turn_scripts;
 mod turns;
 
 use std::process::Abort;

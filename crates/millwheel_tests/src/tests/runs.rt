@@ -2,6 +2,8 @@
 //! writes too.
 mod gates;
 mod refusals;
+mod senders;
+mod whole;
 
 use super::calls::{SOLO, keeper, sink};
 use super::looks::{Claim, Look};

@@ -50,7 +50,7 @@ fn one_open(rt: &impl Abort, alloc: Global) -> State
 }
 
 // What the record at 10 leaves: the window is open, and its timer is set.
-fn counts(rt: &impl Abort, alloc: Global) -> Effects
+pub(crate) fn counts(rt: &impl Abort, alloc: Global) -> Effects
     ensures { result ≡ counts (window 60 1 ∷ []) 60 }
 {
     let mut timers = TimerList::new(alloc);

@@ -48,7 +48,7 @@ fn report_is_stale<K: Keeper>(rt: &impl Abort, book: &mut Book<'_, K>, hands: &H
 }
 
 // The commit number of what was written.
-fn commit_of(written: Written) -> u64 {
+pub(crate) fn commit_of(written: Written) -> u64 {
     let commit = written.commit;
     drop(written);
     commit
