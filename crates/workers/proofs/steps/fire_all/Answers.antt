@@ -1,4 +1,4 @@
-use Rattle.std.proofs.Common.{◌∙◌, ◌+◌, ◌-◌, refl, arith, rules}
+use Rattle.std.proofs.Common.{◌∙◌, ◌-◌, refl, arith, rules}
 use Rattle.workers.specs.Slices.{IsSliceFault}
 use Rattle.workers.proofs.Serving.{fault-after, served-less, served-not, served-then}
 use Rattle.workers.proofs.steps.fire_all.Goals as goal

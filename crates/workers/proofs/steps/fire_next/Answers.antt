@@ -1,4 +1,4 @@
-use Rattle.std.proofs.Common.{◌≡◌, ◌+◌, arith, rules}
+use Rattle.std.proofs.Common.{◌≡◌, arith, rules}
 use Rattle.node.specs.declared.outcome.Outcome.TheVariants as outcomes
 use Rattle.workers.specs.Slices.{IsSliceFault}
 use Rattle.workers.proofs.Serving.{fault-after, served-nothing, served-then}

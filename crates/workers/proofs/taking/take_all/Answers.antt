@@ -1,4 +1,4 @@
-use Rattle.std.proofs.Common.{◌∙◌, ◌+◌, ◌-◌, refl, ap, arith}
+use Rattle.std.proofs.Common.{◌∙◌, ◌-◌, refl, ap, arith}
 use Rattle.book.specs.Desks.{Home}
 use Rattle.workers.proofs.Serving.{served-less, served-not, served-then}
 use Rattle.workers.proofs.taking.take_all.Goals as goal

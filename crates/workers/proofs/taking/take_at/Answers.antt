@@ -1,4 +1,4 @@
-use Rattle.std.proofs.Common.{◌+◌, ◌-◌, length, arith}
+use Rattle.std.proofs.Common.{◌-◌, length, arith}
 use Rattle.run_history.specs.Cases.{intervals_of}
 use Rattle.workers.proofs.PassLaws.{passes-set}
 use Rattle.workers.proofs.Serving.{served-less, served-not}

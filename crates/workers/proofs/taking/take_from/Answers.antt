@@ -1,5 +1,5 @@
 use Rattle.std.proofs.Common.{◌∙◌, ◌+◌, refl, arith}
-use Rattle.workers.proofs.Serving.{served-less, served-not, served-then}
+use Rattle.workers.proofs.Serving.{served-not, served-then}
 use Rattle.workers.proofs.taking.take_from.Goals as goal
 
 pub loop-done-init : goal.loop-done-init

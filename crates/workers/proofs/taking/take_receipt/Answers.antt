@@ -1,10 +1,8 @@
-use Rattle.std.proofs.Common.{◌∙◌, refl, sym, subst, arith, rules}
-use Rattle.std.proofs.lemmas.Result.{IfErr-weaker}
+use Rattle.std.proofs.Common.{refl, arith, rules}
 use Rattle.book.specs.Desks.{DeskView}
 use Rattle.outbox.specs.declared.outgoing.Outgoing.TheVariants as outgoing
 use Rattle.node.proofs.OutLaws.{Fits-looked, vouched-beside}
 use Rattle.node.proofs.ReceiveLaws.{so_met}
-use Rattle.workers.specs.Serving.{HasServed}
 use Rattle.workers.specs.Slices.{IsSliceFault}
 use Rattle.workers.proofs.Serving.{fault-after, served-looked, served-then}
 use Rattle.workers.proofs.Working.{worked-looked}

@@ -1,4 +1,4 @@
-use Rattle.std.proofs.Common.{◌∙◌, ◌+◌, refl, arith}
+use Rattle.std.proofs.Common.{◌∙◌, refl, arith}
 use Rattle.workers.specs.Serving.{IsBusy, appended}
 use Rattle.workers.proofs.LineLaws.{lines-last}
 use Rattle.workers.proofs.Serving.{faults-after, served-not, served-then, tried-again, tried-answered}
