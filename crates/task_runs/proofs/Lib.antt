@@ -5,4 +5,5 @@ pub mod Living
 pub mod Leaving
 pub mod RoundLaws
 pub mod LiveRuns
+pub mod LiveLines
 pub mod LivesLeft
