@@ -7,3 +7,4 @@ pub mod RoundLaws
 pub mod LiveRuns
 pub mod LiveLines
 pub mod LivesLeft
+pub mod LiveCollects
