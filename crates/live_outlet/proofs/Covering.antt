@@ -1,9 +1,10 @@
 -- The text of a sink after each pump, and after a list of steps.
-use Rattle.std.proofs.Common.{◌≡◌, ℕ, ◌+◌, ◌<◌, ◌≤◌, ◌⊎◌, Bool, true, false, List, [], ◌∷◌, ◌++◌, length, take, Some, inl, inr, refl, sym, ◌∙◌, ap, subst, arith}
+use Rattle.std.proofs.Common.{◌≡◌, ℕ, ◌+◌, ◌<◌, ◌≤◌, ◌⊎◌, Bool, true, false, List, [], ◌∷◌, ◌++◌, length, take, Some, inl, inr, refl, sym, ◌∙◌, ap, subst, arith, append_assoc, append-nil}
 use Rattle.std.specs.Prelude.{Contains, max}
 use Rattle.std.specs.List.{AllByRecursion}
 use Rattle.std.specs.Io.KnownBytes.{append_known}
 use Rattle.std.proofs.lemmas.Bool.{cases_eq, cases_lt}
+use Rattle.std.proofs.lemmas.List.{append_cancel_left}
 use Rattle.std.proofs.lemmas.List.Elements.{All-contains_itself, recursion_from_All, Contains-append_left, Contains-append_right}
 use Rattle.mw_types.specs.declared.delivery.Emission.{Emission}
 use Rattle.mw_types.specs.declared.entry.Entry.{Entry}
@@ -41,19 +42,19 @@ of_run-first shape history from to es left between = firsts es (of_run shape his
 
 -- ---- what each step keeps
 
--- the text is made of these lines and a rest, which is unfinished only where some outlet owes an LF; and the emissions before
--- each outlet's place stand among these lines
-record Keeps (shape : Shape) (history : List Entry) (sink : OneSink) (lines : List (List ℕ)) : Type 0 where
+-- the text is what the sink had, and these lines and a rest, which is unfinished only where some outlet owes an LF; and the
+-- emissions before each outlet's place stand among these lines
+record Keeps (had : List ℕ) (shape : Shape) (history : List Entry) (sink : OneSink) (lines : List (List ℕ)) : Type 0 where
   text : List ℕ
-  is : sink.text ≡ Some text
+  is : sink.text ≡ Some (had ++ text)
   made : IsMadeOf shape (run_of shape history).emissions lines text
   finished : (made.rest ≡ []) ⊎ ((who : ℕ) × ((sink.outlets who).owes ≡ true))
   placed : (who : ℕ) → StandIn shape lines (emitted_by shape history (sink.outlets who).place)
 
 -- some lines with which a sink keeps what it has to, and among which all stand that stood among these
-record GoesOn (shape : Shape) (history : List Entry) (sink : OneSink) (before : List (List ℕ)) : Type 0 where
+record GoesOn (had : List ℕ) (shape : Shape) (history : List Entry) (sink : OneSink) (before : List (List ℕ)) : Type 0 where
   lines : List (List ℕ)
-  keeps : Keeps shape history sink lines
+  keeps : Keeps had shape history sink lines
   stay : (es : List Emission) → StandIn shape before es → StandIn shape lines es
 
 -- where an unfinished line may stand, it is the pumped outlet that owes the LF
@@ -108,11 +109,11 @@ out_after shape history from to owes es lines text is finished stand between liv
 -- ---- the steps
 
 -- a pump that answers Ok
-pumped-keeps : (shape : Shape) (history : List Entry) (who n : ℕ) (old new : OneSink) (lines : List (List ℕ))
-    → Keeps shape history old lines
+pumped-keeps : (had : List ℕ) (shape : Shape) (history : List Entry) (who n : ℕ) (old new : OneSink) (lines : List (List ℕ))
+    → Keeps had shape history old lines
     → Does shape history (pumped who n) old new
-    → (on : GoesOn shape history new lines) × StandIn shape on.lines (emitted_by shape history n)
-pumped-keeps shape history who n old new lines keeps (may, others, end, wrote) =
+    → (on : GoesOn had shape history new lines) × StandIn shape on.lines (emitted_by shape history n)
+pumped-keeps had shape history who n old new lines keeps (may, others, end, wrote) =
     let o : OutletView = old.outlets who in
     let o' : OutletView = new.outlets who in
     let between : AreBetween shape history o.place o'.place wrote.es =
@@ -123,7 +124,8 @@ pumped-keeps shape history who n old new lines keeps (may, others, end, wrote) =
         lines = out.lines;
         keeps = record {
           text = keeps.text ++ piece_of o.owes (live_lines shape wrote.es);
-          is = wrote.wrote ∙ ap (λ t. append_known t (piece_of o.owes (live_lines shape wrote.es))) keeps.is;
+          is = wrote.wrote ∙ ap (λ t. append_known t (piece_of o.owes (live_lines shape wrote.es))) keeps.is
+              ∙ ap Some (append_assoc had keeps.text (piece_of o.owes (live_lines shape wrote.es)));
           made = out.made;
           finished = finishes out.made.rest (owes_behind o.owes (live_lines shape wrote.es)) wrote.owes out.finished;
           placed = placed_all shape history who old new lines out.lines out.stay others keeps.placed out.own;
@@ -139,10 +141,10 @@ pumped-keeps shape history who n old new lines keeps (may, others, end, wrote) =
     finishes rest left same (inr owed) = inr (who, same ∙ owed)
 
 -- a pump that is stopped
-stopped-keeps : (shape : Shape) (history : List Entry) (who n : ℕ) (old new : OneSink) (lines : List (List ℕ))
-    → Keeps shape history old lines
-    → Does shape history (stopped who n) old new → GoesOn shape history new lines
-stopped-keeps shape history who n old new lines keeps (may, others, stops) =
+stopped-keeps : (had : List ℕ) (shape : Shape) (history : List Entry) (who n : ℕ) (old new : OneSink) (lines : List (List ℕ))
+    → Keeps had shape history old lines
+    → Does shape history (stopped who n) old new → GoesOn had shape history new lines
+stopped-keeps had shape history who n old new lines keeps (may, others, stops) =
     let o : OutletView = old.outlets who in
     let o' : OutletView = new.outlets who in
     let within : o'.place < length (take n history) = stops.place in
@@ -163,7 +165,9 @@ stopped-keeps shape history who n old new lines keeps (may, others, stops) =
       lines = out.lines ++ cut.0;
       keeps = record {
         text = (keeps.text ++ first) ++ take stops.wrote.0 last;
-        is = stops.wrote.2 ∙ ap (λ t. append_known (append_known t first) (take stops.wrote.0 last)) keeps.is;
+        is = stops.wrote.2 ∙ ap (λ t. append_known (append_known t first) (take stops.wrote.0 last)) keeps.is
+            ∙ ap (λ (l : List ℕ). Some (l ++ take stops.wrote.0 last)) (append_assoc had keeps.text first)
+            ∙ ap Some (append_assoc had (keeps.text ++ first) (take stops.wrote.0 last));
         made = cut.1;
         finished = inr (who, stops.owes);
         placed = placed_all shape history who old new lines (out.lines ++ cut.0) stay others keeps.placed
@@ -173,9 +177,9 @@ stopped-keeps shape history who n old new lines keeps (may, others, stops) =
     }
 
 -- an outlet that goes back
-back-keeps : (shape : Shape) (history : List Entry) (who : ℕ) (old new : OneSink) (lines : List (List ℕ)) → Keeps shape history old lines
-    → Does shape history (taken_back who) old new → GoesOn shape history new lines
-back-keeps shape history who old new lines keeps (others, text, place, owes) = record {
+back-keeps : (had : List ℕ) (shape : Shape) (history : List Entry) (who : ℕ) (old new : OneSink) (lines : List (List ℕ)) → Keeps had shape history old lines
+    → Does shape history (taken_back who) old new → GoesOn had shape history new lines
+back-keeps had shape history who old new lines keeps (others, text, place, owes) = record {
   lines = lines;
   keeps = record {
     text = keeps.text;
@@ -213,44 +217,46 @@ furthest-stands shape history lines n m one other = by_case (cases_lt n m)
         let is : n ≡ max n m = omega (arith, least) in subst (λ k. StandIn shape lines (emitted_by shape history k)) is one
 
 -- steps one after another
-steps-keep : (shape : Shape) (history : List Entry) (steps : List OutletStep) (old new : OneSink) (lines : List (List ℕ))
-    → Keeps shape history old lines
+steps-keep : (had : List ℕ) (shape : Shape) (history : List Entry) (steps : List OutletStep) (old new : OneSink) (lines : List (List ℕ))
+    → Keeps had shape history old lines
     → AreDone shape history steps old new
-    → (on : GoesOn shape history new lines) × StandIn shape on.lines (emitted_by shape history (furthest steps))
-steps-keep shape history [] old new lines keeps same =
-    (record { lines = lines; keeps = subst (λ (s : OneSink). Keeps shape history s lines) (sym same) keeps; stay = λ es stand. stand }, tt)
-steps-keep shape history (pumped who n ∷ steps) old new lines keeps (next, does, done) =
-    let on = pumped-keeps shape history who n old next lines keeps does in
-    let rest = steps-keep shape history steps next new on.0.lines on.0.keeps done in (
+    → (on : GoesOn had shape history new lines) × StandIn shape on.lines (emitted_by shape history (furthest steps))
+steps-keep had shape history [] old new lines keeps same =
+    (record { lines = lines; keeps = subst (λ (s : OneSink). Keeps had shape history s lines) (sym same) keeps; stay = λ es stand. stand }, tt)
+steps-keep had shape history (pumped who n ∷ steps) old new lines keeps (next, does, done) =
+    let on = pumped-keeps had shape history who n old next lines keeps does in
+    let rest = steps-keep had shape history steps next new on.0.lines on.0.keeps done in (
       record { lines = rest.0.lines; keeps = rest.0.keeps; stay = λ es stand. rest.0.stay es (on.0.stay es stand) },
       furthest-stands shape history rest.0.lines n (furthest steps) (rest.0.stay (emitted_by shape history n) on.1) rest.1,
     )
-steps-keep shape history (stopped who n ∷ steps) old new lines keeps (next, does, done) =
-    let on = stopped-keeps shape history who n old next lines keeps does in
-    let rest = steps-keep shape history steps next new on.lines on.keeps done in
+steps-keep had shape history (stopped who n ∷ steps) old new lines keeps (next, does, done) =
+    let on = stopped-keeps had shape history who n old next lines keeps does in
+    let rest = steps-keep had shape history steps next new on.lines on.keeps done in
     (record { lines = rest.0.lines; keeps = rest.0.keeps; stay = λ es stand. rest.0.stay es (on.stay es stand) }, rest.1)
-steps-keep shape history (taken_back who ∷ steps) old new lines keeps (next, does, done) =
-    let on = back-keeps shape history who old next lines keeps does in
-    let rest = steps-keep shape history steps next new on.lines on.keeps done in
+steps-keep had shape history (taken_back who ∷ steps) old new lines keeps (next, does, done) =
+    let on = back-keeps had shape history who old next lines keeps does in
+    let rest = steps-keep had shape history steps next new on.lines on.keeps done in
     (record { lines = rest.0.lines; keeps = rest.0.keeps; stay = λ es stand. rest.0.stay es (on.stay es stand) }, rest.1)
 
--- before any step nothing is written
-fresh-keeps : (shape : Shape) (history : List Entry) (sink : OneSink) → IsFresh sink → Keeps shape history sink []
-fresh-keeps shape history sink fresh = record {
+-- before any step nothing is written but what the sink had
+fresh-keeps : (had : List ℕ) (shape : Shape) (history : List Entry) (sink : OneSink) → IsFresh had sink → Keeps had shape history sink []
+fresh-keeps had shape history sink fresh = record {
   text = [];
-  is = fresh.none;
+  is = fresh.some ∙ ap Some (sym (append-nil had));
   made = record { rest = []; whole = refl; each = tt; last = tt };
   finished = inl refl;
   placed = λ who. subst (λ n. StandIn shape [] (emitted_by shape history n)) (sym (fresh.places who)) tt;
 }
 
--- the text covers all that a pump came to the end of
-pub steps-cover : (shape : Shape) (history : List Entry) (steps : List OutletStep) (first last : OneSink) (text : List ℕ) → IsFresh first
-    → AreDone shape history steps first last → last.text ≡ Some text → Covers shape history (furthest steps) text
-steps-cover shape history steps first last text fresh done is =
-    let on = steps-keep shape history steps first last [] (fresh-keeps shape history first fresh) done in record {
+-- what was added to the text covers all that a pump came to the end of
+pub steps-cover : (shape : Shape) (history : List Entry) (steps : List OutletStep) (first last : OneSink) (had text : List ℕ)
+    → IsFresh had first → AreDone shape history steps first last → last.text ≡ Some (had ++ text)
+    → Covers shape history (furthest steps) text
+steps-cover shape history steps first last had text fresh done is =
+    let on = steps-keep had shape history steps first last [] (fresh-keeps had shape history first fresh) done in record {
       lines = on.0.lines;
       made = subst (IsMadeOf shape (run_of shape history).emissions on.0.lines)
-          (some_same on.0.keeps.text text (sym on.0.keeps.is ∙ is)) on.0.keeps.made;
+          (append_cancel_left had on.0.keeps.text text
+          (some_same (had ++ on.0.keeps.text) (had ++ text) (sym on.0.keeps.is ∙ is))) on.0.keeps.made;
       all = on.1;
     }

@@ -46,7 +46,7 @@ each-front P [] ys each = tt
 each-front P (x ∷ xs) ys each = (each.0, each-front P xs ys each.1)
 
 -- a line that begins a live line has no control byte
-begun-no_control : (shape : Shape) (run : List Emission) (line : List ℕ) → IsBegun shape run line → HasNoControl line
+pub begun-no_control : (shape : Shape) (run : List Emission) (line : List ℕ) → IsBegun shape run line → HasNoControl line
 begun-no_control shape run line is = each-front (λ (b : ℕ). 32 ≤ b) line is.left
     (subst HasNoControl (sym is.whole)
     (compact_text-no_control (live_data (live_of shape is.emission)) (live-writable (live_of shape is.emission) is.live)))
@@ -89,16 +89,21 @@ last-clean : (rest : List ℕ) → AllByRecursion HasNoControl (last_line rest) 
 last-clean [] clean = tt
 last-clean (b ∷ bs) clean = clean.0
 
--- a text that is made of lines and a rest has just these lines
+-- a text of lines that end and a rest has just these lines, where none has a control byte
+pub lines_of-ended : (lines : List (List ℕ)) (rest : List ℕ) → AllByRecursion HasNoControl lines
+    → AllByRecursion HasNoControl (last_line rest) → lines_of (ended lines ++ rest) ≡ lines ++ last_line rest
+lines_of-ended lines rest clean last =
+    ap (λ parts. map without_return (without_empty_end parts)) (parts-ended lines rest clean (last-clean rest last))
+    ∙ ap (map without_return) (without_empty_end-push lines rest)
+    ∙ no_returns (lines ++ last_line rest) (each-append HasNoControl lines (last_line rest) clean last)
+
+-- a text that is made of lines and a rest has just these
 lines_of-made : (shape : Shape) (run : List Emission) (lines : List (List ℕ)) (text : List ℕ) (is : IsMadeOf shape run lines text)
     → lines_of text ≡ lines ++ last_line is.rest
 lines_of-made shape run lines text is =
     let clean = each-weaker (IsBegun shape run) HasNoControl (begun-no_control shape run) lines is.each in
     let last = each-weaker (IsBegun shape run) HasNoControl (begun-no_control shape run) (last_line is.rest) is.last in
-    ap lines_of is.whole
-    ∙ ap (λ parts. map without_return (without_empty_end parts)) (parts-ended lines is.rest clean (last-clean is.rest last))
-    ∙ ap (map without_return) (without_empty_end-push lines is.rest)
-    ∙ no_returns (lines ++ last_line is.rest) (each-append HasNoControl lines (last_line is.rest) clean last)
+    ap lines_of is.whole ∙ lines_of-ended lines is.rest clean last
 
 -- ---- the results of a run, by id
 

@@ -65,9 +65,9 @@ pub record OneSink : Type 0 where
   pub outlets : ℕ → OutletView
   pub text : Option (List ℕ)
 
--- nothing is written, and no outlet owes an LF
-pub record IsFresh (sink : OneSink) : Type 0 where
-  pub none : sink.text ≡ Some []
+-- the sink has this text, of which the outlets have written nothing, and none of them owes an LF
+pub record IsFresh (before : List ℕ) (sink : OneSink) : Type 0 where
+  pub some : sink.text ≡ Some before
   pub places : (who : ℕ) → (sink.outlets who).place ≡ 0
   pub owes : (who : ℕ) → (sink.outlets who).owes ≡ false
 

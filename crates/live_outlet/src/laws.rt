@@ -32,14 +32,14 @@ pub fn no_live_line_begins_another()
 {}
 
 /// Whatever outlets write into one sink, pumped from beginnings of one history in any order, stopped
-/// by faults and taken back, the text is made of live lines of that history's run, of which some were
-/// cut off, and has those of each beginning that a pump came to the end of. An outlet is pumped only
-/// where no other one owes an LF.
+/// by faults and taken back, what they add to the text that it had is made of live lines of that
+/// history's run, of which some were cut off, and has those of each beginning that a pump came to the
+/// end of. An outlet is pumped only where no other one owes an LF.
 pub fn texts_cover_what_was_pumped()
     ensures { (shape : Shape) (history : List Entry) (steps : List OutletStep)
-        (first last : OneSink) (text : List ℕ) →
-        IsFresh first → AreDone shape history steps first last → last.text ≡ Some text →
-        Covers shape history (furthest steps) text }
+        (first last : OneSink) (before text : List ℕ) →
+        IsFresh before first → AreDone shape history steps first last →
+        last.text ≡ Some (before ++ text) → Covers shape history (furthest steps) text }
 {}
 
 /// A text that covers so many first entries of a history collects to each of their results, and to

@@ -1,10 +1,12 @@
 //! The program `millwheel`: the command line, the files and the output of its process.
 //!
-//! All that it does is `millwheel` of `millwheel_cli`, with the words of `words_of`, over the files and the
-//! standard output of the runtime, a keeper in memory and a gate that holds nobody; or `millwheel_alone`, over a
-//! keeper in a database where `keep_name` answers its name, with `after_closing` once that is closed; and then
-//! `tell`, over its standard error, whose number is the exit status. `unheard` says the status of words that were
-//! not read, and `unopened` that of a database that was not opened.
+//! All that it does is `millwheel_alone` of `millwheel_cli`, with the words of `words_of`, over the files and the
+//! standard output of the runtime and a keeper in memory. Where that answers Usage, so that nothing was done, it
+//! does `millwheel` over the same keeper, with a gate that holds nobody: only a call that asks for workers that are
+//! threads, or for nothing, comes so far. Where `keep_name` answers the name of a database the keeper is in that,
+//! `millwheel_alone` is all, and `after_closing` says the status once it is closed. And then it does `tell`, over its
+//! standard error, whose number is the exit status. `unheard` says the status of words that were not read, and
+//! `unopened` that of a database that was not opened.
 #![tactic(auto)]
 
 use millwheel_cli::{
@@ -12,7 +14,7 @@ use millwheel_cli::{
 };
 use mw_ports::{FileShelf, OpenGate, OutSink, words_of};
 use mw_types::{CallList, Name, NoMemory};
-use row_keeper::MemKeeper;
+use row_keeper::{Keeper, MemKeeper};
 use sqlite_keeper::SqliteKeeper;
 use std::process::ExitCode;
 use std::sync::Wait;
@@ -42,7 +44,8 @@ fn run<R: Threads + Wait + Sync>(rt: &HostRuntime, threads: &R, words: &[Name]) 
     }
 }
 
-// Runs these words over a keeper in memory.
+// Runs these words over a keeper in memory. What asks for no threads has none, and so does not wait; a Usage leaves
+// keeper, files and output as they were.
 fn run_in_memory<R: Threads + Wait + Sync>(
     rt: &HostRuntime,
     threads: &R,
@@ -50,16 +53,35 @@ fn run_in_memory<R: Threads + Wait + Sync>(
 ) -> Status {
     let alloc = rt.alloc();
     let kept = MemKeeper::new(alloc, CallList::new(alloc));
+    let done = run_over(rt, words, kept);
+    if let Status::Usage = done.status {
+        let Done { keeper, .. } = done;
+        return ended(run_in_threads(rt, threads, words, keeper));
+    }
+    ended(done)
+}
+
+// Runs these words over the process's files, its standard output and a keeper in memory, and may have threads.
+fn run_in_threads<R: Threads + Wait + Sync>(
+    rt: &HostRuntime,
+    threads: &R,
+    words: &[Name],
+    kept: MemKeeper,
+) -> Done<MemKeeper> {
     let mut shelf = FileShelf::new(rt);
     let mut out = OutSink::new(rt);
     let gate = OpenGate;
-    let done = millwheel(threads, alloc, words, &mut shelf, kept, &mut out, &gate);
+    millwheel(threads, rt.alloc(), words, &mut shelf, kept, &mut out, &gate)
+}
+
+// The status of a run over a keeper in memory. The process ends here, so neither that nor the history is given back
+// piece by piece.
+fn ended(done: Done<MemKeeper>) -> Status {
     let Done {
         status,
         keeper,
         history,
     } = done;
-    // The process ends here, so neither is given back piece by piece.
     mem::forget(keeper);
     mem::forget(history);
     status
@@ -77,8 +99,8 @@ fn run_kept(rt: &HostRuntime, words: &[Name], name: &Name) -> Status {
     }
 }
 
-// Runs these words over the process's files, its standard output and a database.
-fn run_over(rt: &HostRuntime, words: &[Name], kept: SqliteKeeper) -> Done<SqliteKeeper> {
+// Runs these words over the process's files, its standard output and a keeper, without threads.
+fn run_over<K: Keeper>(rt: &HostRuntime, words: &[Name], kept: K) -> Done<K> {
     let mut shelf = FileShelf::new(rt);
     let mut out = OutSink::new(rt);
     millwheel_alone(rt.alloc(), words, &mut shelf, kept, &mut out)

@@ -27,7 +27,7 @@ use Rattle.task_runs.specs.declared.task.Before.{Before}
 use Rattle.task_runs.specs.Tasks.{is_at_once}
 use Rattle.task_runs.specs.Limits.{history_limit}
 use Rattle.task_runs.specs.Histories.{IsReadAfter, IsShortOf}
-use Rattle.task_runs.specs.Answers.{Left, IsUnbegun, IsUnrun, IsRun, IsKeptRun, IsWholeRun, IsWholeText, IsPlainWhole, IsInOrder, IsTextSoFar, RunLeaves, TextLeaves}
+use Rattle.task_runs.specs.Answers.{Left, IsUnbegun, IsUnrun, IsRun, IsKeptRun, IsWholeRun, IsWholeText, IsPlainWhole, IsInOrder, IsLiveReplay, IsTextSoFar, RunLeaves, TextLeaves}
 use Rattle.task_runs.specs.Inside.{HasText, HasPlain, IsWritten, of_start, of_drain}
 
 -- a status that may come once the files are read
@@ -118,6 +118,15 @@ no_order HistoryFirst before shape history text late = tt
 no_order SummaryAlone before shape history text late = tt
 no_order EachAtOnce before shape history text late = absurd (true≢false late)
 
+-- nor of a replay
+no_replay : (wanted : Wanted) (before : Before) (case : CaseShape) (history : List Entry) (text : Option (List ℕ) × Option (List ℕ))
+    (rows : Option Rows) → is_at_once wanted ≡ false → IfSome rows (λ _. IsLiveReplay wanted before case history text)
+no_replay wanted before case history text None late = tt
+no_replay ResultAlone before case history text (Some rows) late = tt
+no_replay HistoryFirst before case history text (Some rows) late = tt
+no_replay SummaryAlone before case history text (Some rows) late = tt
+no_replay EachAtOnce before case history text (Some rows) late = absurd (true≢false late)
+
 -- and where nothing was written, that is the text so far
 pub unwritten : (wanted : Wanted) (shape : Shape) (history : List Entry) (text : Option (List ℕ) × Option (List ℕ))
     → is_at_once wanted ≡ false → text.1 ≡ text.0 → IsTextSoFar wanted shape history text
@@ -136,6 +145,7 @@ wrote task left status.Ok late run plain is = record {
   in_order = no_order task.wanted task.before task.case.topology left.history is.text late;
   written = is.written;
   plain = plain is.text is.whole;
+  replayed = no_replay task.wanted task.before task.case left.history left.text left.rows.1 late;
 }
 wrote task left status.Usage late run plain is = absurd is
 wrote task left (status.NoFile n) late run plain is = absurd is

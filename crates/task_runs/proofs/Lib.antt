@@ -5,4 +5,6 @@ pub mod Living
 pub mod Leaving
 pub mod RoundLaws
 pub mod LiveRuns
+pub mod LiveLines
 pub mod LivesLeft
+pub mod LiveCollects

@@ -1,6 +1,6 @@
 -- How a run goes on whose results are written at once.
 use Rattle.std.proofs.Common.{◌≡◌, ◌≤◌, ◌<◌, ◌∙◌, drop, get_or, ℕ, Bool, true, false, List, length, Option, Some, None, IfSome, refl, sym, ap, subst, true≢false, arith}
-use Rattle.std.specs.Prelude.{Result, Ok, Err, IfErr, IsSome, OnErr, ◌==◌, ◌+◌}
+use Rattle.std.specs.Prelude.{Result, Ok, Err, IfErr, IsSome, OnErr, OnOk, ◌==◌, ◌+◌}
 use Rattle.std.proofs.lemmas.Bool.{ne_eqb}
 use Rattle.std.proofs.lemmas.List.{drop_more}
 use Rattle.std.specs.Option.{is_some}
@@ -39,6 +39,11 @@ use Rattle.task_runs.proofs.Living.{once-or-more}
 pub on_err-map : {T E P Q : Type 0} (result : Result T E) → (P → Q) → OnErr result P → OnErr result Q
 on_err-map (Ok x) f is = tt
 on_err-map (Err why) f is = f is
+
+-- two facts of Ok
+pub on_ok-both : {T E : Type 0} (P Q : Type 0) (result : Result T E) → OnOk result P → OnOk result Q → OnOk result (P × Q)
+on_ok-both P Q (Ok x) p q = (p, q)
+on_ok-both P Q (Err why) p q = tt
 
 -- what holds of a fault holds of an answer that is this fault
 pub err-is : {T : Type 0} (r : Result T LiveFault) (fault : LiveFault) (P : LiveFault → Type 0) → IfErr r (λ f. f ≡ fault) → P fault

@@ -1,5 +1,5 @@
 -- What a run leaves whose results are written at once.
-use Rattle.std.proofs.Common.{◌≡◌, ◌≤◌, ◌+◌, ◌==◌, ◌++◌, ◌∙◌, ℕ, true, false, List, [], ◌∷◌, length, take, Option, Some, None, IfSome, refl, inl, inr, sym, ap, subst, arith, true≢false}
+use Rattle.std.proofs.Common.{◌≡◌, ◌≤◌, ◌+◌, ◌==◌, ◌++◌, ◌∙◌, ℕ, true, List, [], ◌∷◌, length, take, Option, Some, None, IfSome, refl, inl, inr, sym, ap, subst, arith, true≢false}
 use Rattle.std.specs.Io.KnownBytes.{append_known}
 use Rattle.std.proofs.Math.Seq.{take-append-add}
 use Rattle.std.proofs.lemmas.List.{length-append}
@@ -25,8 +25,8 @@ use Rattle.task_runs.specs.declared.task.Before.TheVariants.{Steps}
 use Rattle.task_runs.specs.Limits.{history_limit}
 use Rattle.task_runs.specs.Tasks.{is_at_once}
 use Rattle.task_runs.specs.Histories.{IsReadAfter, IsShortOf}
-use Rattle.task_runs.specs.Lives.{HasResults}
-use Rattle.task_runs.specs.Answers.{Left, IsInOrder, IsPart, IsPlainWhole, IsRun, IsTextSoFar, IsWholeRun, IsWholeText, RunLeaves}
+use Rattle.task_runs.specs.Lives.{HasResults, WritesReplay, replay_lines}
+use Rattle.task_runs.specs.Answers.{Left, IsInOrder, IsLiveReplay, IsPart, IsPlainWhole, IsRun, IsTextSoFar, IsWholeRun, IsWholeText, RunLeaves}
 use Rattle.task_runs.specs.Inside.{IsLiveBehind, IsWritten, of_live}
 use Rattle.task_runs.proofs.Leaving.{stopped}
 use Rattle.task_runs.proofs.Living.{more-again}
@@ -54,7 +54,8 @@ behind-text text some grown front back wrote part =
 
 module _ (task : Task) (left : Left) (steps : List Step) (mid : Option (List ℕ)) (live : task.wanted ≡ EachAtOnce)
     (before : task.before ≡ Steps steps) (run : IsWholeRun task left)
-    (has : HasResults task.case.topology left.history (length steps == 0) left.text.0 mid) where
+    (has : HasResults task.case.topology left.history (length steps == 0) left.text.0 mid)
+    (lines : IfSome left.rows.1 (λ _. WritesReplay task.case steps left.history left.text.0 mid)) where
   -- the lines of all results, and the summary line
   all_text : List ℕ
   all_text = ended has.so_far.lines ++ as_line (summary_data left.history)
@@ -81,6 +82,17 @@ module _ (task : Task) (left : Left) (steps : List Step) (mid : Option (List ℕ
   not_plain None = tt
   not_plain (Some rows) = subst (λ (w : Wanted). IsPlainWhole w task.case left.history all_text) (sym live) tt
 
+  -- the lines of the replay, and the summary line
+  replayed : left.text.1 ≡ append_known mid (as_line (summary_data left.history)) → (rows : Option Rows)
+      → IfSome rows (λ _. WritesReplay task.case steps left.history left.text.0 mid)
+      → IfSome rows (λ _. IsLiveReplay task.wanted task.before task.case left.history left.text)
+  replayed is None lines = tt
+  replayed is (Some rows) lines =
+      subst (λ (w : Wanted). IsLiveReplay w task.before task.case left.history left.text) (sym live)
+      (subst (λ (b : Before). IsLiveReplay EachAtOnce b task.case left.history left.text) (sym before)
+      (is ∙ ap (λ (t : Option (List ℕ)). append_known t (as_line (summary_data left.history))) lines
+      ∙ more-again left.text.0 (ended (replay_lines task.case steps left.history)) (as_line (summary_data left.history))))
+
   in_part : AppendsPrefix (as_line (summary_data left.history)) mid left.text.1 → IsPart task left
   unfolding all_text
   in_part part = record {
@@ -101,6 +113,7 @@ module _ (task : Task) (left : Left) (steps : List Step) (mid : Option (List ℕ
     written = is ∙ ap (λ (t : Option (List ℕ)). append_known t (as_line (summary_data left.history))) has.so_far.wrote
         ∙ more-again left.text.0 (ended has.so_far.lines) (as_line (summary_data left.history));
     plain = not_plain left.rows.1;
+    replayed = replayed is left.rows.1 lines;
   }
   wrote_live status.Usage is = absurd is
   wrote_live (status.NoFile n) is = absurd is

@@ -24,12 +24,12 @@ use Rattle.task_runs.specs.Lives.{AreResultsOf, IsCutBehind, IsLiveInPart, IsLiv
 -- ---- lines
 
 -- live lines are lines that end
-lines-ended : (shape : Shape) (es : List Emission) → live_lines shape es ≡ ended (map (told_by shape) es)
+pub lines-ended : (shape : Shape) (es : List Emission) → live_lines shape es ≡ ended (map (told_by shape) es)
 lines-ended shape [] = refl
 lines-ended shape (e ∷ es) = ap (λ l. live_line_of shape e ++ l) (lines-ended shape es)
 
 -- where no LF is owed, lines are a piece
-piece-alone : (bytes : List ℕ) → piece_of false bytes ≡ bytes
+pub piece-alone : (bytes : List ℕ) → piece_of false bytes ≡ bytes
 piece-alone [] = refl
 piece-alone (b ∷ bs) = refl
 
@@ -44,7 +44,7 @@ more-again None xs ys = refl
 more-again (Some zs) xs ys = ap Some (append_assoc zs xs ys)
 
 -- lines behind lines
-ended-append : (lines ms : List (List ℕ)) → ended (lines ++ ms) ≡ ended lines ++ ended ms
+pub ended-append : (lines ms : List (List ℕ)) → ended (lines ++ ms) ≡ ended lines ++ ended ms
 ended-append lines ms = flat_map-append (λ (line : List ℕ). line ++ 10 ∷ []) lines ms
 
 -- some lines were written behind others
@@ -152,7 +152,7 @@ map-append shape [] ys = refl
 map-append shape (x ∷ xs) ys = ap (λ l. told_by shape x ∷ l) (map-append shape xs ys)
 
 -- no LF is owed behind whole lines
-behind-none : (owes later : Bool) (bytes : List ℕ) → owes ≡ false → later ≡ owes_behind owes bytes → later ≡ false
+pub behind-none : (owes later : Bool) (bytes : List ℕ) → owes ≡ false → later ≡ owes_behind owes bytes → later ≡ false
 behind-none owes later bytes none is = is ∙ ap (λ (b : Bool). owes_behind b bytes) none ∙ none-owed bytes
 
 module _ (shape : Shape) (front history : List Entry) (old : OutletView) (text some grown : Option (List ℕ))

@@ -24,7 +24,7 @@ use Rattle.task_runs.specs.declared.task.Wanted.{Wanted}
 use Rattle.task_runs.specs.declared.task.Wanted.TheVariants.{ResultAlone, HistoryFirst, SummaryAlone, EachAtOnce}
 use Rattle.task_runs.specs.declared.task.Before.{Before}
 use Rattle.task_runs.specs.declared.task.Before.TheVariants.{Steps}
-use Rattle.task_runs.specs.Lives.{IsLiveInPart, IsLiveOnce, IsLiveSoFar, IsLiveText}
+use Rattle.task_runs.specs.Lives.{IsLiveInPart, IsLiveOnce, IsLiveSoFar, IsLiveText, replay_text}
 use Rattle.task_runs.specs.Limits.{history_limit}
 use Rattle.task_runs.specs.Histories.{GoesAs, IsAllOf, IsReadAfter, IsShortOf}
 
@@ -85,6 +85,13 @@ abbrev pub IsInOrder : Wanted → Before → Shape → List Entry → List ℕ �
 IsInOrder EachAtOnce (Steps []) shape history text = IsLiveOnce shape history text
 IsInOrder _ _ shape history text = ⊤
 
+-- where each result was written at once behind the steps of a script, just the text of that replay was written;
+-- of other texts this says nothing
+abbrev pub IsLiveReplay : Wanted → Before → CaseShape → List Entry → Option (List ℕ) × Option (List ℕ) → Type 0
+IsLiveReplay EachAtOnce (Steps steps) case history text =
+    text.1 ≡ append_known text.0 (replay_text case steps history)
+IsLiveReplay _ _ case history text = ⊤
+
 -- the text of a history's lines, and then the plain text of the case
 pub record IsLongPlain (case : CaseShape) (history : List Entry) (text : List ℕ) : Type 0 where
   pub result : List ℕ
@@ -115,6 +122,8 @@ pub record IsWhole (task : Task) (left : Left) : Type 0 where
   pub written : left.text.1 ≡ append_known left.text.0 text
   -- nothing of the history but its lines is in it: its result is the plain count
   pub plain : IfSome left.rows.1 (λ _. IsPlainWhole task.wanted task.case left.history text)
+  -- which results were written again, and when, is decided by the steps
+  pub replayed : IfSome left.rows.1 (λ _. IsLiveReplay task.wanted task.before task.case left.history left.text)
 
 -- the run came to its end, and a beginning of its text was written
 pub record IsPart (task : Task) (left : Left) : Type 0 where

@@ -1,16 +1,21 @@
 -- What a text is that was written while its run went on: each result as soon as its entry was there. Own.
-use Rattle.std.specs.Prelude.{◌≡◌, ◌++◌, ℕ, Bool, true, false, List, length, Option, Contains}
+use Rattle.std.specs.Prelude.{◌≡◌, ◌++◌, ℕ, nat_lt, if◌then◌else◌, Bool, true, false, List, [], ◌∷◌, length, map, drop, Option, Contains}
 use Rattle.std.specs.List.{AllByRecursion}
 use Rattle.std.specs.Io.KnownBytes.{append_known}
 use Rattle.mw_types.specs.declared.delivery.Emission.{Emission}
 use Rattle.mw_types.specs.declared.entry.Entry.{Entry}
 use Rattle.mw_ports.specs.Sinks.{AppendsPrefix}
 use Rattle.topology.specs.Shapes.{Shape}
+use Rattle.run_history.specs.Cases.{CaseShape}
 use Rattle.run_history.specs.Fences.{Begins}
 use Rattle.run_history.specs.Runs.{run_of}
 use Rattle.run_history.specs.Texts.{as_line, summary_data}
 use Rattle.live_outlet.specs.Covering.{StandIn, ended, results_of, told_by}
-use Rattle.live_outlet.specs.Outlets.{IsPumpedFrom, OutletView}
+use Rattle.live_outlet.specs.Outlets.{IsPumpedFrom, OutletView, emitted_by}
+use Rattle.world.specs.Acts.{world_then}
+use Rattle.world.specs.Worlds.{World, empty_world}
+use Rattle.world.specs.declared.step.Step.{Step}
+use Rattle.world.specs.declared.step.Step.TheVariants as steps
 
 -- a line is that of an emission of a history's run
 pub record IsResultOf (shape : Shape) (history : List Entry) (line : List ℕ) : Type 0 where
@@ -49,6 +54,46 @@ pub record IsLiveInPart (shape : Shape) (history : List Entry) (text grown : Opt
   pub begun : List (List ℕ)
   pub results : AreResultsOf shape history begun
   pub part : AppendsPrefix (ended begun) (append_known text (ended lines)) grown
+
+-- ---- the whole text of a replay
+
+-- where an outlet stands behind a step, before the lines of that are written: the crash of a worker, and no
+-- other step, takes it back to the beginning
+abbrev pub place_behind : Step → ℕ → ℕ
+place_behind (steps.Crash worker) place = 0
+place_behind _ place = place
+
+-- what a pump writes with an outlet at this place, the lines of all emissions but those of the entries before
+-- it, and the outlet's place then
+abbrev pub pumped_from : Shape → List Entry → ℕ → List (List ℕ) × ℕ
+pumped_from shape history place = (map (told_by shape)
+    (drop (length (emitted_by shape history place)) (run_of shape history).emissions), length history)
+
+-- the same of a step, before which the history had so many entries: only an entry makes the outlet write
+abbrev pub stepped_from : Shape → List Entry → ℕ → Step → ℕ → List (List ℕ) × ℕ
+stepped_from shape history count step place = if nat_lt count (length history)
+    then pumped_from shape history (place_behind step place) else ([], place_behind step place)
+
+-- lines before others, and the place behind those
+abbrev pub written_before : List (List ℕ) → List (List ℕ) × ℕ → List (List ℕ) × ℕ
+written_before lines rest = (lines ++ rest.0, rest.1)
+
+-- the lines that the steps of a script write in this world with an outlet at this place, and its place then
+abbrev pub script_lines : CaseShape → World → ℕ → List Step → List (List ℕ) × ℕ
+script_lines case world place [] = ([], place)
+script_lines case world place (step ∷ steps) =
+    let next = world_then case world step in
+    let first = stepped_from case.topology next.history (length world.history) step place in
+    written_before first.0 (script_lines case next first.1 steps)
+
+-- the lines of a replay: those that its steps write in a new world, and those of the drain behind them
+abbrev pub replay_lines : CaseShape → List Step → List Entry → List (List ℕ)
+replay_lines case steps history = let first = script_lines case (empty_world case.topology) 0 steps in
+    first.0 ++ (pumped_from case.topology history first.1).0
+
+-- the whole text of a replay whose results are written at once: its lines, and then the summary line
+abbrev pub replay_text : CaseShape → List Step → List Entry → List ℕ
+replay_text case steps history = ended (replay_lines case steps history) ++ as_line (summary_data history)
 
 -- ---- what no public clause cites
 
@@ -98,3 +143,28 @@ TurnsOn shape front history old new some grown = (once : Bool) (text : Option (L
 abbrev pub LivesOn : Shape → List Entry → List Entry → OutletView → Option (List ℕ) → Option (List ℕ) → Type 0
 LivesOn shape front history old some grown = (once : Bool) (text : Option (List ℕ)) →
     IsPumpedTo shape front once old text some → HasResults shape history once text grown
+
+-- lines were written, and an outlet owes no LF and is at this place
+pub record WritesLines (lines : List (List ℕ) × ℕ) (outlet : OutletView)
+    (some grown : Option (List ℕ)) : Type 0 where
+  pub wrote : grown ≡ append_known some (ended lines.0)
+  pub none_owed : outlet.owes ≡ false
+  pub place : outlet.place ≡ lines.1
+
+-- so it is where the outlet owed none before
+abbrev pub GoesOnBy : List (List ℕ) × ℕ → OutletView → OutletView → Option (List ℕ) → Option (List ℕ) → Type 0
+GoesOnBy lines old new some grown = old.owes ≡ false → WritesLines lines new some grown
+
+-- lines were written of a script that was begun in one world with an outlet at this place; in another it has
+-- these steps left, and their lines are all that it still writes
+pub record IsWritingOn (case : CaseShape) (start : World) (from : ℕ) (all : List Step) (world : World)
+    (left : List Step) (outlet : OutletView) (text grown : Option (List ℕ)) : Type 0 where
+  pub lines : List (List ℕ)
+  pub wrote : grown ≡ append_known text (ended lines)
+  pub none_owed : outlet.owes ≡ false
+  pub whole : script_lines case start from all
+      ≡ written_before lines (script_lines case world outlet.place left)
+
+-- just the lines of a replay were written
+abbrev pub WritesReplay : CaseShape → List Step → List Entry → Option (List ℕ) → Option (List ℕ) → Type 0
+WritesReplay case steps history text grown = grown ≡ append_known text (ended (replay_lines case steps history))

@@ -3,13 +3,14 @@
 //!
 //! Stands on `world`, `workers`, `plain_answer` and `live_outlet`, and reaches the output by `mw_ports`. Public contract:
 //! each call ends with a status, which leaves of history, rows and text what is said of it (`RunLeaves`; of a count
-//! `TextLeaves`); a keeper's fault and a sink's are counted by those. Definitions, in the order of reading:
-//! `specs/Tasks.antt`, what a task names; `specs/Histories.antt`, how a history goes; `specs/Lives.antt`, what a text is
-//! that was written while its run went on; `specs/Answers.antt`, what each status leaves; `specs/Messages.antt` and
-//! `specs/Numbers.antt`, what is said of it.
+//! `TextLeaves`); a keeper's fault and a sink's are counted by those; and a text that was written while its run went on
+//! collects to its results. Definitions, in the order of reading: `specs/Tasks.antt`, what a task names;
+//! `specs/Histories.antt`, how a history goes; `specs/Lives.antt`, what a text is that was written while its run went on;
+//! `specs/Answers.antt`, what each status leaves; `specs/Messages.antt` and `specs/Numbers.antt`, what is said of it.
 #![tactic(auto)]
 
 mod done;
+mod laws;
 mod live;
 mod plain;
 mod rounding;
@@ -19,6 +20,7 @@ mod task;
 mod text;
 
 pub use done::{Done, unbegun};
+pub use laws::live_texts_collect_once;
 pub use plain::count;
 pub use rounding::run_rounds;
 pub use runs::run;

@@ -13,13 +13,13 @@ ghost use Rattle.world.specs.Steps.{IsStep};
 ghost use Rattle.world.specs.Drains.{HasEnded, IsDraining};
 ghost use Rattle.world.specs.Turns.{HasGone, WhereTold};
 ghost use Rattle.world.specs.DrainTurns.{HasDrained};
-ghost use Rattle.live_outlet.specs.Outlets.{IsPumpedFrom};
+ghost use Rattle.live_outlet.specs.Outlets.{IsPumpedFrom, WritesTo};
 ghost use Rattle.world.specs.Replays.{IsReplayed, IsWholeReplay};
 ghost use Rattle.world.specs.WorldDrains.{HasDrain};
 ghost use Rattle.world.specs.WorldStates.{world_of};
 ghost use Rattle.task_runs.specs.Limits.{history_limit};
 ghost use Rattle.task_runs.specs.Answers.{Left, RunLeaves};
-ghost use Rattle.task_runs.specs.Lives.{HasResults, IsCutBehind, IsPumpedTo, LivesOn, PumpsOn, StepsOn, TurnsOn};
+ghost use Rattle.task_runs.specs.Lives.{GoesOnBy, HasResults, IsCutBehind, IsPumpedTo, LivesOn, PumpsOn, StepsOn, TurnsOn, WritesLines, WritesReplay, place_behind, pumped_from, script_lines, stepped_from};
 ghost use Rattle.task_runs.specs.Tasks.{is_at_once};
 ghost use Rattle.task_runs.specs.Inside.{HasLiveCause, IsLiveBehind, IsStepDone, IsStepFault, IsTurnFault, IsWritten, StopsLive, StopsStep, of_live};
 
@@ -138,9 +138,11 @@ fn run_live<'a, K: Keeper, C: Computation + Drop, O: Sink>(
     ensures cause { IfErr result (HasLiveCause world.old.book world.new.book
         (O.faults out.old) (O.faults out.new)) }
 
-    // The results of the history were written, or a part of them.
+    // The results of the history were written, or a part of them; after Ok by the lines of the replay.
     ensures results { OnOk result (HasResults world.old.book.case.topology world.new.book.history
         (length steps.now == 0) (O.text out.old) (O.text out.new)) }
+    ensures lines { OnOk result (IfSome world.old.book.rows (λ _. WritesReplay
+        world.old.book.case steps.now world.new.book.history (O.text out.old) (O.text out.new))) }
     ensures behind { IfErr result (λ fault. IsLiveBehind fault world.old.book.case.topology
         world.new.book.history (O.text out.old) (O.text out.new)) }
 {
@@ -177,9 +179,11 @@ fn run_pumped<'a, K: Keeper, C: Computation + Drop, O: Sink>(
     ensures cause { IfErr result (HasLiveCause world.old.book world.new.book
         (O.faults out.old) (O.faults out.new)) }
 
-    // The results of the history were written, or a part of them.
+    // The results of the history were written, or a part of them; after Ok by the lines of the replay.
     ensures results { OnOk result (HasResults world.old.book.case.topology world.new.book.history
         (length steps.now == 0) (O.text out.old) (O.text out.new)) }
+    ensures lines { OnOk result (IfSome world.old.book.rows (λ _. WritesReplay
+        world.old.book.case steps.now world.new.book.history (O.text out.old) (O.text out.new))) }
     ensures behind { IfErr result (λ fault. IsLiveBehind fault world.old.book.case.topology
         world.new.book.history (O.text out.old) (O.text out.new)) }
 {
@@ -217,6 +221,9 @@ fn script_live<'a, K: Keeper, C: Computation + Drop, O: Sink>(
 
     ensures pumped { OnOk result (IsPumpedTo world.old.book.case.topology world.new.book.history
         (length steps.now == 0) outlet.new (O.text out.old) (O.text out.new)) }
+    ensures lines { OnOk result (IfSome world.old.book.rows (λ _. WritesLines
+        (script_lines world.old.book.case (world_of world.old) outlet.old.place steps.now)
+        outlet.new (O.text out.old) (O.text out.new))) }
     ensures behind { IfErr result (λ fault. IsLiveBehind fault world.old.book.case.topology
         world.new.book.history (O.text out.old) (O.text out.new)) }
 {
@@ -251,6 +258,9 @@ fn step_live<'a, K: Keeper, C: Computation + Drop, O: Sink>(
 
     ensures stepped { OnOk result (StepsOn world.old.book.case.topology world.new.book.history
         (length world.old.book.history) outlet.old outlet.new (O.text out.old) (O.text out.new)) }
+    ensures lines { OnOk result (GoesOnBy (stepped_from world.old.book.case.topology
+        world.new.book.history (length world.old.book.history) step.now outlet.old.place)
+        outlet.old outlet.new (O.text out.old) (O.text out.new)) }
     ensures behind { IfErr result (λ fault. StopsStep fault world.old.book.case.topology
         world.old.book.history world.new.book.history outlet.old
         (O.text out.old) (O.text out.new)) }
@@ -275,6 +285,9 @@ fn after_step<'a, K: Keeper, C: Computation + Drop, O: Sink>(
         outlet.old world.now.book.history }
     ensures stepped { OnOk result (StepsOn world.now.book.case.topology world.now.book.history
         before outlet.old outlet.new (O.text out.old) (O.text out.new)) }
+    ensures lines { OnOk result (GoesOnBy (stepped_from world.now.book.case.topology
+        world.now.book.history before step.now outlet.old.place)
+        outlet.old outlet.new (O.text out.old) (O.text out.new)) }
     ensures cut { OnErr result (IsCutBehind world.now.book.case.topology world.now.book.history
         outlet.old (O.text out.old) (O.text out.new)) }
     ensures cause { HasCause (O.faults out.old) (O.faults out.new) result SinkFault.Failed }
@@ -290,6 +303,7 @@ fn after_step<'a, K: Keeper, C: Computation + Drop, O: Sink>(
 // Takes an outlet back where a step is the crash of a worker.
 fn take_back(alloc: Global, step: &Step, outlet: &mut Outlet)
     ensures owes { outlet.new.owes ≡ outlet.old.owes }
+    ensures place { outlet.new.place ≡ place_behind step.now outlet.old.place }
     ensures extends { (shape : Form) (history : List Happened) →
         IsPumpedFrom shape outlet.old history → IsPumpedFrom shape outlet.new history }
 {
@@ -322,6 +336,9 @@ fn drain_live<'a, K: Keeper, C: Computation + Drop, O: Sink>(
 
     ensures results { OnOk result (LivesOn world.old.book.case.topology world.old.book.history
         world.new.book.history outlet.old (O.text out.old) (O.text out.new)) }
+    ensures lines { OnOk result (GoesOnBy (pumped_from world.old.book.case.topology
+        world.new.book.history outlet.old.place)
+        outlet.old outlet.new (O.text out.old) (O.text out.new)) }
     ensures behind { IfErr result (λ fault. StopsLive fault world.old.book.case.topology
         world.old.book.history world.new.book.history outlet.old
         (O.text out.old) (O.text out.new)) }
@@ -358,6 +375,9 @@ fn turns_live<'a, K: Keeper, C: Computation + Drop, O: Sink>(
 
     ensures results { OnOk result (LivesOn world.old.book.case.topology world.old.book.history
         world.new.book.history outlet.old (O.text out.old) (O.text out.new)) }
+    ensures lines { OnOk result (GoesOnBy (pumped_from world.old.book.case.topology
+        world.new.book.history outlet.old.place)
+        outlet.old outlet.new (O.text out.old) (O.text out.new)) }
     ensures behind { IfErr result (λ fault. StopsLive fault world.old.book.case.topology
         world.old.book.history world.new.book.history outlet.old
         (O.text out.old) (O.text out.new)) }
@@ -395,6 +415,9 @@ fn turn_live<'a, K: Keeper, C: Computation + Drop, O: Sink>(
         outlet.new world.new.book.history) }
     ensures pumped { OnOk result (TurnsOn world.old.book.case.topology world.old.book.history
         world.new.book.history outlet.old outlet.new (O.text out.old) (O.text out.new)) }
+    ensures place { OnOk result (outlet.new.place ≡ length world.new.book.history) }
+    ensures wrote { OnOk result (WritesTo world.old.book.case.topology world.new.book.history
+        outlet.old outlet.new (O.text out.old) (O.text out.new)) }
     ensures behind { IfErr result (λ fault. StopsLive fault world.old.book.case.topology
         world.old.book.history world.new.book.history outlet.old
         (O.text out.old) (O.text out.new)) }
@@ -416,6 +439,9 @@ fn pump<'a, K: Keeper, C: Computation + Drop, O: Sink>(
     ensures extends { IsPumpedFrom world.now.book.case.topology
         outlet.new world.now.book.history }
     ensures pumped { OnOk result (PumpsOn world.now.book.case.topology world.now.book.history
+        outlet.old outlet.new (O.text out.old) (O.text out.new)) }
+    ensures place { OnOk result (outlet.new.place ≡ length world.now.book.history) }
+    ensures wrote { OnOk result (WritesTo world.now.book.case.topology world.now.book.history
         outlet.old outlet.new (O.text out.old) (O.text out.new)) }
     ensures cut { OnErr result (IsCutBehind world.now.book.case.topology world.now.book.history
         outlet.old (O.text out.old) (O.text out.new)) }

@@ -39,6 +39,24 @@ const AGAIN: &str =
 {"fired":0,"handled":3,"injected":3,"late":0}
 "#;
 
+// The first record is passed on and acknowledged, and no worker crashes.
+const GOES_ON: Files<'static> = &[
+    ("t.json", TAILS),
+    ("e", EVENTS),
+    (
+        "p",
+        "claim 0 0\nclaim 0 1\ninject 0 0\nsend 0\ntake 0 0\nwrite 0\nsend 0\ntake 0 1\n",
+    ),
+];
+
+// So each result stands once.
+const ON: &str =
+    r#"{"id":"00000000-0000-8000-8000-000000000003","key":"a","stream":"copies","ts":10,"value":1}
+{"id":"00000000-0000-8000-8000-000000000008","key":"a","stream":"copies","ts":59,"value":1}
+{"id":"00000000-0000-8000-8000-00000000000b","key":"a","stream":"copies","ts":60,"value":1}
+{"fired":0,"handled":3,"injected":3,"late":0}
+"#;
+
 // The same without a plan: each result stands once.
 const COPIES: &str =
     r#"{"id":"00000000-0000-8000-8000-000000000003","key":"a","stream":"copies","ts":10,"value":1}
@@ -51,7 +69,7 @@ const COPIES: &str =
 const NO_STEP: Files<'static> = &[("t.json", COUNT), ("e", EVENTS), ("p", "#\n")];
 
 // Calls that write each result at once, and one that is none.
-static LIVES: [Case; 5] = [
+static LIVES: [Case; 6] = [
     ("solo", "solo --live t.json e", FIRST, Look::Runs(ALL, 14)),
     (
         "copies",
@@ -70,6 +88,12 @@ static LIVES: [Case; 5] = [
         "replay --plan p --live t.json e",
         CRASHES,
         Look::Runs(AGAIN, 14),
+    ),
+    (
+        "no crash",
+        "replay --plan p --live t.json e",
+        GOES_ON,
+        Look::Runs(ON, 14),
     ),
     (
         "history",

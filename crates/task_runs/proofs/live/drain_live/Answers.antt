@@ -6,7 +6,7 @@ use Rattle.world.specs.Drains.{HasEnded, IsDraining}
 use Rattle.world.specs.Turns.{HasGone, WhereTold}
 use Rattle.world.proofs.DrainTurnLaws.{whole-draining, whole-ended, whole-unended}
 use Rattle.live_outlet.specs.Outlets.{IsPumpedFrom}
-use Rattle.task_runs.specs.Lives.{LivesOn}
+use Rattle.task_runs.specs.Lives.{GoesOnBy, LivesOn, pumped_from}
 use Rattle.task_runs.specs.Inside.{HasLiveCause, StopsLive}
 use Rattle.task_runs.proofs.live.drain_live.Goals as goal
 
@@ -63,6 +63,14 @@ returns-clause-results g c =
     let turned = c.turns_live-drained in
     subst (λ (b : BookView). OnOk turned.result (LivesOn b.case.topology b.history turned.new.world.book.history c.args.outlet.now
     (g.O.Sink.text c.args.out.now) (g.O.Sink.text turned.new.out))) c.begin_drain-drain.ensures.book turned.ensures.results
+
+-- by just the lines from where the outlet was
+pub returns-clause-lines : goal.returns-clause-lines
+returns-clause-lines g c =
+    let turned = c.turns_live-drained in
+    subst (λ (b : BookView). OnOk turned.result (GoesOnBy (pumped_from b.case.topology turned.new.world.book.history
+    c.args.outlet.now.place) c.args.outlet.now turned.new.outlet (g.O.Sink.text c.args.out.now) (g.O.Sink.text turned.new.out)))
+    c.begin_drain-drain.ensures.book turned.ensures.lines
 
 -- or a part of them
 pub returns-clause-behind : goal.returns-clause-behind

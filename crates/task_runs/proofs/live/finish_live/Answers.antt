@@ -7,9 +7,9 @@ use Rattle.world.specs.Replays.{IsReplayed, IsWholeReplay}
 use Rattle.task_runs.specs.declared.task.Before.{Before}
 use Rattle.task_runs.specs.Histories.{GoesAs, IsAllOf}
 use Rattle.task_runs.specs.Answers.{RunLeaves}
-use Rattle.task_runs.specs.Lives.{HasResults}
+use Rattle.task_runs.specs.Lives.{HasResults, WritesReplay}
 use Rattle.task_runs.specs.Inside.{HasLiveCause, IsLiveBehind}
-use Rattle.task_runs.proofs.Running.{damaged_at, more_seen, run_of_book, run_short, same_where_empty, whole_run}
+use Rattle.task_runs.proofs.Running.{damaged_at, more_seen, run_of_book, run_short, same_where_empty, seen_on, whole_run}
 use Rattle.task_runs.proofs.Statuses.{live_keeper, live_sink, written_keeper}
 use Rattle.task_runs.proofs.LivesLeft.{at_once, stopped_live, wrote_live}
 use Rattle.task_runs.proofs.live.finish_live.Goals as goal
@@ -35,7 +35,10 @@ returns-in-Ok-clause-left g c =
     c.drains_leave_no_work.ensures.finished after.tells all in
     let has = subst (λ (k : CaseShape). HasResults k.topology new.history (length steps == 0) some mid) c.requires.case
     c.in-Ok.ensures.results in
-    wrote_live task _ steps mid (at_once task.wanted c.requires.live) c.requires.before whole has c.write_summary.result
+    let lines = seen_on (WritesReplay task.case steps new.history some mid) old.rows new.rows after.tells
+    (subst (λ (k : CaseShape). IfSome old.rows (λ _. WritesReplay k steps new.history some mid)) c.requires.case
+    c.in-Ok.ensures.lines) in
+    wrote_live task _ steps mid (at_once task.wanted c.requires.live) c.requires.before whole has lines c.write_summary.result
     c.write_summary.ensures.written
 
 pub returns-in-Err-clause-left : goal.returns-in-Err-clause-left

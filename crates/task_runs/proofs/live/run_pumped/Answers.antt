@@ -1,10 +1,13 @@
-use Rattle.std.proofs.Common.{◌∙◌, ◌==◌, length, refl, sym, subst}
+use Rattle.std.proofs.Common.{◌∙◌, ◌≡◌, ◌==◌, length, refl, sym, ap, subst}
 use Rattle.list_lemmas.proofs.Told.{on_ok-map}
 use Rattle.world.proofs.Results.{err-then}
 use Rattle.run_history.specs.Cases.{CaseShape}
 use Rattle.live_outlet.specs.Outlets.{IsPumpedFrom}
 use Rattle.task_runs.specs.Lives.{LivesOn}
 use Rattle.task_runs.specs.Inside.{StopsLive}
+use Rattle.world.specs.WorldStates.{world_of}
+use Rattle.world.specs.Worlds.{World}
+use Rattle.task_runs.proofs.LiveLines.{replayed-lines}
 use Rattle.task_runs.proofs.LiveRuns.{causes-before}
 use Rattle.task_runs.proofs.Replaying.{drained_behind, replayed_of, script_stopped, script_unended, unended_behind, whole_behind}
 use Rattle.task_runs.proofs.live.run_pumped.Goals as goal
@@ -80,6 +83,17 @@ returns-clause-results g c =
     on_ok-map c.drain_live.result (λ lives. subst (λ (k : CaseShape). LivesOn k.topology mid.history c.drain_live.new.world.book.history
     c.script_live.new.outlet (g.O.Sink.text c.script_live.new.out) (g.O.Sink.text c.drain_live.new.out)) script.case lives
     (length c.args.steps.now == 0) (g.O.Sink.text c.args.out.now) script.pumped) c.drain_live.ensures.results
+
+pub returns-clause-lines : goal.returns-clause-lines
+returns-clause-lines g c =
+    let old = c.args.world.now.book in
+    let script = c.in_ok-script_live.ensures in
+    let outlet = c.script_live.new.outlet in
+    let empty : length old.history ≡ 0 = ap (λ (w : World). length w.history) c.requires.begun in
+    on_ok-map c.drain_live.result (λ goes. replayed-lines old.case c.script_live.new.world.book.case (world_of c.args.world.now)
+    c.args.outlet.now.place c.args.steps.now c.drain_live.new.world.book.history outlet c.drain_live.new.outlet
+    (g.O.Sink.text c.args.out.now) (g.O.Sink.text c.script_live.new.out) (g.O.Sink.text c.drain_live.new.out) old.rows
+    script.case c.requires.begun (c.requires.pumped.at_end refl ∙ empty) script.lines goes) c.drain_live.ensures.lines
 
 pub returns-clause-behind : goal.returns-clause-behind
 returns-clause-behind g c =

@@ -1,14 +1,27 @@
-use Rattle.std.proofs.Common.{length, refl, sym, subst, rules, arith}
+use Rattle.std.proofs.Common.{drop, length, refl, sym, subst, rules, arith}
 use Rattle.std.specs.Prelude.{IfErr}
-use Rattle.list_lemmas.proofs.Told.{if-there}
+use Rattle.std.proofs.lemmas.List.{drop_all}
+use Rattle.list_lemmas.proofs.Told.{if-anyway, if-there}
 use Rattle.world.proofs.Results.{err-then}
 use Rattle.run_history.specs.Cases.{CaseShape}
 use Rattle.live_outlet.specs.Outlets.{IsPumpedFrom}
 use Rattle.world.specs.WorldStates.{world_of}
-use Rattle.world.proofs.RunLaws.{begins-one}
+use Rattle.world.proofs.RunLaws.{begins-one, run-none}
 use Rattle.task_runs.specs.Inside.{HasLiveCause, StopsStep}
+use Rattle.task_runs.proofs.LiveLines.{writing-all, writing-none, writing-step}
 use Rattle.task_runs.proofs.LiveRuns.{cause-before, pumped-step, step-begun, step-more, stopped-step}
 use Rattle.task_runs.proofs.live.script_live.Goals as goal
+
+-- before the first step nothing is written
+pub loop-step-init : goal.loop-step-init
+loop-step-init g c =
+    let start = c.args.world.now in (
+      run-none start c.args.steps.now,
+      c.requires.pumped,
+      omega arith,
+      if-anyway start.book.rows _ (writing-none start.book.case (world_of start) c.args.steps.now c.args.outlet.now
+          (g.O.Sink.text c.args.out.now) c.requires.pumped.none_owed),
+    )
 
 -- the outlet may be pumped on
 pub step_live-requires-clause-extends : goal.step_live-requires-clause-extends
@@ -34,7 +47,20 @@ loop-step-preserved g c =
           c.step_live.new.outlet (g.O.Sink.text c.args.out.now) (g.O.Sink.text l.out) (g.O.Sink.text c.step_live.new.out)
           l.invariant.0.case begins refl c.in_ok-step_live.ensures.stepped l.invariant.1,
       omega (arith, later, cause),
+      writing-step start old new c.args.steps.now l.step-index _ c.in_ok-step_live.ensures.done.0 c.args.outlet.now.place l.outlet
+          c.step_live.new.outlet (g.O.Sink.text c.args.out.now) (g.O.Sink.text l.out) (g.O.Sink.text c.step_live.new.out)
+          c.loop-step-test.true l.invariant.0.case l.invariant.0.tells c.in_ok-step_live.ensures.done.1
+          c.in_ok-step_live.ensures.lines l.invariant.3,
     )
+
+-- behind the last step all is written
+pub returns-clause-lines : goal.returns-clause-lines
+returns-clause-lines g c =
+    let l = c.loop-step in
+    let start = c.args.world.now in
+    writing-all start.book.case (world_of start) (world_of l.world) c.args.outlet.now.place c.args.steps.now
+    (drop l.step-index c.args.steps.now) l.outlet (g.O.Sink.text c.args.out.now) (g.O.Sink.text l.out) start.book.rows
+    (drop_all l.step-index c.args.steps.now (search rules)) l.invariant.3
 
 -- ---- a step failed, or its results were cut off
 

@@ -7,7 +7,7 @@ use Rattle.world.specs.WorldStates.{world_of}
 use Rattle.world.proofs.RunLaws.{begins-one, faulted-history}
 use Rattle.task_runs.specs.declared.live.LiveFault.{LiveFault}
 use Rattle.task_runs.specs.declared.live.LiveFault.TheVariants as lives
-use Rattle.task_runs.specs.Lives.{IsCutBehind, IsPumpedTo, StepsOn}
+use Rattle.task_runs.specs.Lives.{GoesOnBy, IsCutBehind, IsPumpedTo, StepsOn, stepped_from}
 use Rattle.task_runs.proofs.LiveRuns.{err-is, pumped-further}
 use Rattle.task_runs.proofs.live.step_live.Goals as goal
 
@@ -34,6 +34,19 @@ returns-clause-stepped g c =
     (g.O.Sink.text c.args.out.now) (g.O.Sink.text c.after_step.new.out)) c.step.ensures.case
     (subst (λ n. StepsOn new.case.topology new.history n c.args.outlet.now c.after_step.new.outlet
     (g.O.Sink.text c.args.out.now) (g.O.Sink.text c.after_step.new.out)) long c.in_ok-after_step.ensures.stepped)
+
+-- and wrote just the lines that it writes
+pub returns-clause-lines : goal.returns-clause-lines
+returns-clause-lines g c =
+    let old = c.args.world.now.book in
+    let new = c.step.new.self.book in
+    let step = c.args.step.now in
+    let place = c.args.outlet.now.place in
+    let long : c.len-before.result ≡ length old.history = search rules in
+    subst (λ (k : CaseShape). GoesOnBy (stepped_from k.topology new.history (length old.history) step place) c.args.outlet.now
+    c.after_step.new.outlet (g.O.Sink.text c.args.out.now) (g.O.Sink.text c.after_step.new.out)) c.step.ensures.case
+    (subst (λ n. GoesOnBy (stepped_from new.case.topology new.history n step place) c.args.outlet.now
+    c.after_step.new.outlet (g.O.Sink.text c.args.out.now) (g.O.Sink.text c.after_step.new.out)) long c.in_ok-after_step.ensures.lines)
 
 -- ---- it failed
 

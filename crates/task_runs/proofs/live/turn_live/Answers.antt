@@ -1,7 +1,7 @@
 use Rattle.std.proofs.Common.{◌≡◌, sym, subst, rules}
 use Rattle.std.specs.Prelude.{IfErr}
 use Rattle.run_history.specs.Cases.{CaseShape}
-use Rattle.live_outlet.specs.Outlets.{IsPumpedFrom}
+use Rattle.live_outlet.specs.Outlets.{IsPumpedFrom, WritesTo}
 use Rattle.task_runs.specs.declared.live.LiveFault.{LiveFault}
 use Rattle.task_runs.specs.declared.live.LiveFault.TheVariants as lives
 use Rattle.task_runs.specs.Lives.{IsCutBehind}
@@ -34,6 +34,11 @@ returns-clause-pumped g c =
     pumped-turn old.case new.case old.history old.history new.history c.args.outlet.now c.args.outlet.now c.pump.new.outlet
     (g.O.Sink.text c.args.out.now) (g.O.Sink.text c.args.out.now) (g.O.Sink.text c.pump.new.out) drained.stepped.case
     (turn-begins c.args.drain.now.from old new _ drained) c.in_ok-pump.ensures.pumped (λ once text is. is)
+
+pub returns-clause-wrote : goal.returns-clause-wrote
+returns-clause-wrote g c =
+    subst (λ (k : CaseShape). WritesTo k.topology c.drain_turn.new.self.book.history c.args.outlet.now c.pump.new.outlet
+    (g.O.Sink.text c.args.out.now) (g.O.Sink.text c.pump.new.out)) c.in_ok-more.ensures.drained.stepped.case c.in_ok-pump.ensures.wrote
 
 -- ---- a turn failed
 

@@ -8,7 +8,9 @@ use Rattle.run_history.specs.Cases.{CaseShape}
 use Rattle.live_outlet.specs.Outlets.{IsPumpedFrom}
 use Rattle.task_runs.specs.declared.live.LiveFault.{LiveFault}
 use Rattle.task_runs.specs.Inside.{HasLiveCause}
-use Rattle.task_runs.proofs.LiveRuns.{cause-before, fault-gone, fault-goes, fault-short, stops-behind, turn-ended, turns-on, err-is}
+use Rattle.run_history.proofs.Beginnings.{Begins-length}
+use Rattle.task_runs.proofs.LiveLines.{pumped-lines, writes-none, writes-on}
+use Rattle.task_runs.proofs.LiveRuns.{cause-before, fault-gone, fault-goes, fault-short, stops-behind, turn-begins, turn-ended, turns-on, err-is}
 use Rattle.task_runs.proofs.live.turns_live.Goals as goal
 
 -- the drain begins to turn
@@ -19,6 +21,7 @@ loop-init g c = (
   c.requires.extends,
   omega arith,
   λ once text is. is,
+  writes-none c.args.world.now.book.case.topology c.args.world.now.book.history c.args.outlet.now (g.O.Sink.text c.args.out.now),
 )
 
 -- the outlet may be pumped on
@@ -45,6 +48,12 @@ loop-preserved g c =
       turns-on start.case old.case start.history old.history new.history c.args.outlet.now l.outlet c.turn_live.new.outlet
           (g.O.Sink.text c.args.out.now) (g.O.Sink.text l.out) (g.O.Sink.text c.turn_live.new.out) l.invariant.1.gone.case
           l.invariant.4 turned.pumped,
+      writes-on start.case old.case old.history new.history c.args.outlet.now l.outlet c.turn_live.new.outlet
+          (g.O.Sink.text c.args.out.now) (g.O.Sink.text l.out) (g.O.Sink.text c.turn_live.new.out) l.invariant.1.gone.case
+          (turn-begins l.drain.from old new _ turned.drained)
+          (let within = c.requires.extends.place in
+          let grown = Begins-length start.history old.history l.invariant.1.gone.grown in omega (arith, within, grown))
+          l.invariant.2.place l.invariant.5 turned.wrote,
     )
 
 -- ---- no entry was left
@@ -79,6 +88,23 @@ returns-clause-results g c =
     (turns-on start.case old.case start.history old.history c.turn_live.new.world.book.history c.args.outlet.now l.outlet
     c.turn_live.new.outlet (g.O.Sink.text c.args.out.now) (g.O.Sink.text l.out) (g.O.Sink.text c.turn_live.new.out)
     l.invariant.1.gone.case l.invariant.4 c.in_ok-turn_live.ensures.pumped)
+
+-- by just the lines from where the outlet was
+pub returns-clause-lines : goal.returns-clause-lines
+returns-clause-lines g c =
+    let l = c.loop in
+    let start = c.args.world.now.book in
+    let old = l.world.book in
+    let new = c.turn_live.new.world.book in
+    let turned = c.in_ok-turn_live.ensures in
+    pumped-lines start.case.topology new.history c.args.outlet.now c.turn_live.new.outlet (g.O.Sink.text c.args.out.now)
+    (g.O.Sink.text c.turn_live.new.out) turned.place
+    (writes-on start.case old.case old.history new.history c.args.outlet.now l.outlet c.turn_live.new.outlet
+    (g.O.Sink.text c.args.out.now) (g.O.Sink.text l.out) (g.O.Sink.text c.turn_live.new.out) l.invariant.1.gone.case
+    (turn-begins l.drain.from old new _ turned.drained)
+    (let within = c.requires.extends.place in
+    let grown = Begins-length start.history old.history l.invariant.1.gone.grown in omega (arith, within, grown))
+    l.invariant.2.place l.invariant.5 turned.wrote)
 
 -- ---- a turn failed, or its results were cut off
 

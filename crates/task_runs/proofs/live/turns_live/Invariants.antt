@@ -1,6 +1,6 @@
 use Rattle.std.proofs.Common.{◌≤◌, ◌-◌, length}
 use Rattle.world.specs.DrainTurns.{IsGoingOn}
-use Rattle.live_outlet.specs.Outlets.{IsPumpedFrom}
+use Rattle.live_outlet.specs.Outlets.{IsPumpedFrom, WritesTo}
 use Rattle.world.specs.WorldDrains.{HasDrain}
 use Rattle.task_runs.specs.Lives.{TurnsOn}
 use Rattle.task_runs.proofs.live.turns_live.Given as goal
@@ -12,6 +12,8 @@ invariant-loop g l = HasDrain l.world l.drain
     × IsPumpedFrom l.initial.world.book.case.topology l.outlet l.world.book.history
     × (g.O.Sink.faults l.initial.out ≤ g.O.Sink.faults l.out)
     × TurnsOn l.initial.world.book.case.topology l.initial.world.book.history l.world.book.history l.initial.outlet l.outlet
+    (g.O.Sink.text l.initial.out) (g.O.Sink.text l.out)
+    × WritesTo l.initial.world.book.case.topology l.world.book.history l.initial.outlet l.outlet
     (g.O.Sink.text l.initial.out) (g.O.Sink.text l.out)
 
 -- each turn brings the history nearer to its limit
