@@ -71,7 +71,15 @@ fn run_in_threads<R: Threads + Wait + Sync>(
     let mut shelf = FileShelf::new(rt);
     let mut out = OutSink::new(rt);
     let gate = OpenGate;
-    millwheel(threads, rt.alloc(), words, &mut shelf, kept, &mut out, &gate)
+    millwheel(
+        threads,
+        rt.alloc(),
+        words,
+        &mut shelf,
+        kept,
+        &mut out,
+        &gate,
+    )
 }
 
 // The status of a run over a keeper in memory. The process ends here, so neither that nor the history is given back

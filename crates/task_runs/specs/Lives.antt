@@ -66,8 +66,11 @@ place_behind _ place = place
 -- what a pump writes with an outlet at this place, the lines of all emissions but those of the entries before
 -- it, and the outlet's place then
 abbrev pub pumped_from : Shape → List Entry → ℕ → List (List ℕ) × ℕ
-pumped_from shape history place = (map (told_by shape)
-    (drop (length (emitted_by shape history place)) (run_of shape history).emissions), length history)
+pumped_from shape history place = (
+  map (told_by shape)
+      (drop (length (emitted_by shape history place)) (run_of shape history).emissions),
+  length history,
+)
 
 -- the same of a step, before which the history had so many entries: only an entry makes the outlet write
 abbrev pub stepped_from : Shape → List Entry → ℕ → Step → ℕ → List (List ℕ) × ℕ

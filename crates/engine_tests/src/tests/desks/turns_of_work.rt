@@ -30,9 +30,9 @@ const SOURCE: Table<'static> = &[(Act::ClaimSource, Answer::Claimed(0))];
 const COUNT: Table<'static> = &[(Act::ClaimCount, Answer::Claimed(1))];
 
 // Both lines are injected in the first turn, as entries 2 and 3, whose records are handled in the other worker's
-// first turn, and the words of that are settled in the second. Then the injector is at its end; the count knows
-// that by its second turn, and reports the end of its first window, at 60. So that timer fires in its third turn,
-// and what is left is the end of the second window, at 120.
+// first turn, and the words of that are settled in the second. Then the injector is at its end, which the count
+// knows by its second turn. None of its timers is due there until it reports: the end of its first window, at 60,
+// then that of the second, at 120. So both fire in that turn, and nothing is left.
 static ROWS: [Row<'static>; 1] = [Row {
     kept: Kept::InMemory(&[]),
     limit: 64,
@@ -47,8 +47,9 @@ static ROWS: [Row<'static>; 1] = [Row {
         Told::Ack(0, 2),
         Told::Ack(0, 3),
         Told::Fire(1, 60),
+        Told::Fire(1, 120),
     ],
-    marks: [END, 120],
+    marks: [END, END],
 }];
 
 // A mailbox with room for so many messages, and its one pass.
