@@ -9,7 +9,7 @@ ghost use Rattle.millwheel_cli.specs.Inside.{of_lines, UnlessWant};
 
 use crate::refusal::Refusal;
 use injector::{Items, ItemsList, LinesRefusal, read_lines};
-use mw_types::{NoMemory, Seq};
+use mw_types::{NoMemory, PlanRefusal, Seq};
 use plans::{Actions, read_actions};
 use run_history::Case;
 use std::alloc::Global;
@@ -99,13 +99,14 @@ pub fn no_steps(alloc: Global, case: &Case) -> Result<Before, NoMemory>
     Ok(Before::Steps { steps })
 }
 
-// A script without a step.
+// A script without a step: an empty text has no line that could be out of form.
 fn no_schedule(alloc: Global, case: &Case) -> Result<Schedule, NoMemory>
     ensures { IfOk result (λ steps. steps ≡ []) }
 {
     match read_schedule(alloc, &[], case) {
         Ok(steps) => Ok(steps),
-        Err(_) => Err(NoMemory),
+        Err(PlanRefusal::NoMemory) => Err(NoMemory),
+        Err(PlanRefusal::Line { .. }) => unreachable!(),
     }
 }
 
@@ -121,13 +122,14 @@ pub fn no_actions(alloc: Global, case: &Case, workers: u32, rounds: u32) -> Resu
     })
 }
 
-// A plan without an action.
+// A plan without an action, by the same.
 fn no_plan(alloc: Global, case: &Case, workers: u32, rounds: u32) -> Result<Actions, NoMemory>
     ensures { IfOk result (λ actions. actions ≡ []) }
 {
     match read_actions(alloc, &[], case, workers, rounds) {
         Ok(actions) => Ok(actions),
-        Err(_) => Err(NoMemory),
+        Err(PlanRefusal::NoMemory) => Err(NoMemory),
+        Err(PlanRefusal::Line { .. }) => unreachable!(),
     }
 }
 

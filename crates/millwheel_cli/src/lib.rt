@@ -16,11 +16,11 @@
 //! reason, and leaves what the clauses say. `millwheel_alone` says the same of all modes but `run`, to a caller
 //! that has no threads. Definitions, in the order of reading: `specs/Asked.antt`, what the words are to whom,
 //! and where rows are kept; `specs/Files.antt`, what was read; `specs/Loads.antt`, what load makes;
-//! `specs/Tasks.antt`, what is to be done; `specs/Lives.antt`, what a text is that was written while its run
-//! went on; `specs/Collects.antt`, what collect writes; `specs/Audits.antt`, what an audit reads, writes and
-//! refuses; `specs/Reasons.antt`, why each status comes; `specs/Histories.antt`, how a history goes;
-//! `specs/Answers.antt`, what each status leaves; `specs/Closing.antt`, what comes of words that were not read,
-//! and of a keeper's fault before or after a run.
+//! `specs/Tasks.antt`, what is to be done; `specs/Collects.antt`, what collect writes; `specs/Audits.antt`, what
+//! an audit reads, writes and refuses; `specs/Reasons.antt`, why each status comes; `specs/Answers.antt`, what each
+//! status leaves of a call; `specs/Closing.antt`, what comes of words that were not read, and of a keeper's fault
+//! before or after a run. What it leaves of a task's history, rows and text, and how a history goes, is defined in
+//! `task_runs`, in `specs/Histories.antt`, `specs/Lives.antt` and `specs/Answers.antt` there.
 #![tactic(auto)]
 
 mod alone;
