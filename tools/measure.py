@@ -15,11 +15,15 @@ at most. Another build comes from an older commit:
 
     tools/measure.py --rounds PROGRAM
 
-prints processor and wall seconds and memory of `PROGRAM run` with one, two and four workers beside `PROGRAM solo`, over
-16,000 lines, which 1,000 rounds inject at 16 a round, and over 262,144, most of which is left to the drain.
+prints processor and wall seconds and memory of `PROGRAM run` with 1, 2, 4 and 16 workers beside `PROGRAM solo`, and the
+processor seconds as multiples of `solo`'s: over one file, uncut and cut into as many intervals as there may be, and over a
+day of three web servers with unequal shares and of sixteen with equal ones, of whose lines each is read twice. A round
+injects 16 lines of each file; what is left of the longest is left to the drain.
 """
 import hashlib
+import json
 import os
+import random
 import resource
 import subprocess
 import sys
@@ -42,12 +46,17 @@ INPUTS = [
 ]
 
 
-# The same, over which rounds are measured, and how often a run has how many workers and rounds.
+# How many workers a run has, and over which inputs, with how many rounds, that is measured.
+CREW = (1, 2, 4, 16)
 ROUNDED = [
-    ("16,000 lines, 26 keys, timestamps below 600", 16_000, 26, 60, lambda n: n * 7919 % 600),
-    ("262,144 lines, 26 keys, timestamps below 600", 262_144, 26, 60, lambda n: n * 7919 % 600),
+    ("one file, 16,000 lines, 26 keys, 2 intervals", 1000, lambda room: one_file(room, [])),
+    ("one file, 16,000 lines, 26 keys, 61 intervals", 1000, lambda room: one_file(room, cuts(59))),
+    ("three servers, 48,000 lines, 10 intervals", 1000, lambda room: day(room, [6, 5, 4], 48_000, 77)),
+    ("sixteen servers, 48,000 lines, 23 intervals", 190, lambda room: day(room, [1] * 16, 48_000, 78)),
 ]
-CREWS = [(1, 0), (1, 10), (1, 100), (1, 1000), (2, 1000), (4, 1000)]
+HOSTS = ["api.example", "img.example", "shop.example", "www.example"]
+PATHS = ["", "search", "health", "cart", "v1/items"] + ["item/%d" % number for number in range(10)]
+NOON, SECONDS, MILLION = 1_795_824_000, 86_400, 1_000_000
 
 
 def key(number, keys):
@@ -73,10 +82,10 @@ def make(room, entry):
     return topology, events
 
 
-def run(program, mode, topology, events):
+def run(program, mode, *files):
     """One run: processor seconds, peak memory in MiB, exit status, and a sum of the text."""
     child = subprocess.Popen(
-        [program, *mode.split(), topology, events],
+        [program, *mode.split(), *files],
         stdout=subprocess.PIPE,
         stderr=subprocess.DEVNULL,
         preexec_fn=lambda: resource.setrlimit(resource.RLIMIT_AS, (MEMORY, MEMORY)),
@@ -86,28 +95,81 @@ def run(program, mode, topology, events):
     return used.ru_utime + used.ru_stime, used.ru_maxrss / 1024, os.waitstatus_to_exitcode(status), text
 
 
-def rounds(program, entry):
+def cuts(count):
+    """So many texts at which keys of one letter are parted."""
+    return sorted(chr(ord("a") + at // 3) + "agp"[at % 3] for at in range(count))
+
+
+def one_file(room, parts):
+    """A count over one file, whose keys are parted at these texts: the words behind the mode."""
+    topology, events = make(room, ("", 16_000, 26, 60, lambda n: n * 7919 % 600))
+    with open(topology) as told:
+        shape = json.load(told)
+    if parts:
+        shape["computations"][0]["cuts"] = parts
+    with open(topology, "w") as out:
+        json.dump(shape, out)
+    return [topology, events]
+
+
+def by(streams, extract):
+    """What reads these streams by this."""
+    return [{"stream": stream, "by": extract} for stream in streams]
+
+
+def write_server(path, lines, chance):
+    """A day of one server: a line's time is up to five seconds back, of one line in 250 some minutes."""
+    with open(path, "w") as out:
+        for number in range(lines):
+            at = NOON + SECONDS * number // lines
+            back = 180 + chance.randrange(1200) if chance.randrange(250) == 0 else chance.randrange(6)
+            host = HOSTS[min(chance.randrange(4), chance.randrange(4))]
+            out.write('{"key":"%s/%s","ts":%d}\n' % (host, chance.choice(PATHS), max(at - back, NOON) * MILLION))
+            if number % 25 == 24:
+                out.write('{"watermark":%d}\n' % ((at - 120) * MILLION))
+
+
+def day(room, shares, lines, seed):
+    """A day of servers with these shares of the lines: counts by host and minute, and by path and day."""
+    chance, streams = random.Random(seed), ["r%d" % at for at in range(len(shares))]
+    counts = [
+        {"name": "minutes", "kind": "count", "size": 60 * MILLION, "cuts": ["b", "j", "t"], "reads": by(streams, "head"), "stream": "m"},
+        {"name": "printed", "kind": "pass", "reads": by(["m"], "key"), "stream": "requests_per_minute"},
+        {"name": "alert", "kind": "spike", "last": 5, "times": 3, "reads": by(["m"], "key"), "stream": "spikes"},
+        {"name": "paths", "kind": "count", "size": SECONDS * MILLION, "reads": by(streams, "key"), "stream": "path_day"},
+    ]
+    files = [os.path.join(room, stream) for stream in ["t.json", *streams]]
+    with open(files[0], "w") as out:
+        json.dump({"injectors": [{"name": "of_" + it, "stream": it} for it in streams], "computations": counts}, out)
+    for path, share in zip(files[1:], shares):
+        write_server(path, lines * share // sum(shares), chance)
+    return files
+
+
+def rounds(program, name, count, made):
     """Prints what rounds cost beside one thread over an input, and whether all wrote the same text."""
-    modes = ["solo"] + ["run --workers=%d --rounds=%d" % crew for crew in CREWS]
-    texts = set()
-    print(entry[0])
+    modes = ["solo"] + ["run --workers=%d --rounds=%d" % (workers, count) for workers in CREW]
+    texts, least = set(), None
+    print(name)
     with tempfile.TemporaryDirectory() as room:
-        topology, events = make(room, entry)
+        words = made(room)
         for mode in modes:
             seen = []
             for _ in range(RUNS):
                 begun = time.time()
-                seen.append((*run(program, mode, topology, events), time.time() - begun))
+                seen.append((*run(program, mode, *words), time.time() - begun))
             texts.update(one[3] for one in seen)
             seconds, memory, status, _, wall = min(seen)
-            print("  %-32s %6.2f s, %6.2f s by the clock, %4.0f MiB, status %d" % (mode, seconds, wall, memory, status))
+            least = least or seconds
+            told = (mode, seconds, seconds / least, wall, memory, status)
+            print("  %-32s %6.2f s, %5.2f of solo's, %6.2f s by the clock, %4.0f MiB, status %d" % told)
     print("  the same text" if len(texts) == 1 else "  TEXTS DIFFER", flush=True)
 
 
 def main():
     if sys.argv[1:2] == ["--rounds"] and len(sys.argv) == 3:
         for entry in ROUNDED:
-            rounds(os.path.abspath(sys.argv[2]), entry)
+            rounds(os.path.abspath(sys.argv[2]), *entry)
         return
     words = [(os.path.abspath(program), mode) for program in sys.argv[1:] for mode in MODES]
     if not words:
