@@ -167,6 +167,9 @@ def rounds(program, name, count, made):
 
 
 def main():
+    if sys.argv[1:] == ["--help"]:
+        print(__doc__, end="")
+        return
     if sys.argv[1:2] == ["--rounds"] and len(sys.argv) == 3:
         for entry in ROUNDED:
             rounds(os.path.abspath(sys.argv[2]), *entry)
