@@ -1,7 +1,7 @@
 #!/usr/bin/env bash
 # Tries all there is to try: tools/test.sh [--unproved]
 # Without a word that is the gate, .ci/run: each crate is proved from nothing, with each wrong body, test and program, and
-# then what starts the program is tried. That takes some forty minutes on four processors that do nothing else.
+# then what starts the program is tried. That takes forty to eighty minutes on four processors that do nothing else.
 # With --unproved NOTHING IS PROVED: each #[test] runs as `rt try` runs it, with checks in the place of proofs; each
 # program is built without a proof, run and held to its text; and tools/check-built.sh tries it. That takes some ten
 # minutes, and shows what the code does, and nothing of what its clauses say.
