@@ -16,8 +16,8 @@ at most. Another build comes from an older commit:
     tools/measure.py --rounds PROGRAM
 
 prints processor and wall seconds and memory of `PROGRAM run` with 1, 2, 4 and 16 workers beside `PROGRAM solo`, and the
-processor seconds as multiples of `solo`'s: over one file, uncut and cut into as many intervals as there may be, and over a
-day of three web servers with unequal shares and of sixteen with equal ones, of whose lines each is read twice. A round
+processor seconds as multiples of `solo`'s: over one file, uncut, cut, and cut into as many intervals as there may be, and over
+days of three web servers with unequal shares and of sixteen with equal ones, of whose lines each is read twice. A round
 injects 16 lines of each file; what is left of the longest is left to the drain.
 """
 import hashlib
@@ -50,11 +50,15 @@ INPUTS = [
 CREW = (1, 2, 4, 16)
 ROUNDED = [
     ("one file, 16,000 lines, 26 keys, 2 intervals", 1000, lambda room: one_file(room, [])),
+    ("one file, 16,000 lines, 26 keys, 4 intervals", 1000, lambda room: one_file(room, ["i", "r"])),
     ("one file, 16,000 lines, 26 keys, 61 intervals", 1000, lambda room: one_file(room, cuts(59))),
     ("three servers, 48,000 lines, 10 intervals", 1000, lambda room: day(room, [6, 5, 4], 48_000, 77)),
+    ("three servers, 200,000 lines, 10 intervals", 1000, lambda room: day(room, [6, 5, 4], 200_000, 77)),
     ("sixteen servers, 48,000 lines, 23 intervals", 190, lambda room: day(room, [1] * 16, 48_000, 78)),
+    ("sixteen servers, 48,000 lines, 30 intervals", 190, lambda room: day(room, [1] * 16, 48_000, 78, PATH_CUTS)),
 ]
 HOSTS = ["api.example", "img.example", "shop.example", "www.example"]
+PATH_CUTS = ["b", "c", "i", "j", "s", "t", "w"]
 PATHS = ["", "search", "health", "cart", "v1/items"] + ["item/%d" % number for number in range(10)]
 NOON, SECONDS, MILLION = 1_795_824_000, 86_400, 1_000_000
 
@@ -129,8 +133,9 @@ def write_server(path, lines, chance):
                 out.write('{"watermark":%d}\n' % ((at - 120) * MILLION))
 
 
-def day(room, shares, lines, seed):
-    """A day of servers with these shares of the lines: counts by host and minute, and by path and day."""
+def day(room, shares, lines, seed, parted=()):
+    """A day of servers with these shares of the lines: counts by host and minute, and by path and day, whose keys are
+    parted at these texts."""
     chance, streams = random.Random(seed), ["r%d" % at for at in range(len(shares))]
     counts = [
         {"name": "minutes", "kind": "count", "size": 60 * MILLION, "cuts": ["b", "j", "t"], "reads": by(streams, "head"), "stream": "m"},
@@ -138,6 +143,8 @@ def day(room, shares, lines, seed):
         {"name": "alert", "kind": "spike", "last": 5, "times": 3, "reads": by(["m"], "key"), "stream": "spikes"},
         {"name": "paths", "kind": "count", "size": SECONDS * MILLION, "reads": by(streams, "key"), "stream": "path_day"},
     ]
+    if parted:
+        counts[-1]["cuts"] = list(parted)
     files = [os.path.join(room, stream) for stream in ["t.json", *streams]]
     with open(files[0], "w") as out:
         json.dump({"injectors": [{"name": "of_" + it, "stream": it} for it in streams], "computations": counts}, out)

@@ -51,7 +51,7 @@ fn rest_of<F: Read>(alloc: Global, file: &mut F, limit: u64) -> Result<Bytes, Sh
     ensures told { ReadsAll (F.remaining file.old) limit result }
     ensures most { TakesAtMost (limit + 1) (F.remaining file.old) (F.remaining file.new) }
 {
-    let mut bytes = Bytes::new(alloc);
+    let mut bytes = Vec::new(alloc);
     let mut portion = [0; PORTION];
     let mut left = limit;
     loop {
@@ -62,7 +62,7 @@ fn rest_of<F: Read>(alloc: Global, file: &mut F, limit: u64) -> Result<Bytes, Sh
         };
         let count = take_portion(file, &mut portion[..most], left, &mut bytes)?;
         if count == 0 {
-            return Ok(bytes);
+            return Ok(Bytes::from_vec(bytes));
         }
         left -= count as u64;
     }
@@ -73,14 +73,14 @@ fn take_portion<F: Read>(
     file: &mut F,
     portion: &mut [u8],
     left: u64,
-    bytes: &mut Bytes,
+    bytes: &mut Vec<u8>,
 ) -> Result<usize, ShelfFault>
     requires some { 0 < length portion.old }
     requires one_above { length portion.old ≤ left + 1 }
     ensures within { IfOk result (λ count. count ≤ left) }
     ensures end { IfOk result (λ count. count ≡ 0 → IsAtEnd (F.remaining file.new)) }
     ensures moved { IfOk result
-        (Moves (F.remaining file.old) (F.remaining file.new) bytes.old bytes.new) }
+        (Moves (F.remaining file.old) (F.remaining file.new) bytes.old.items bytes.new.items) }
     ensures not_missing { IsErrOf result ShelfFault.Missing → ⊥ }
     ensures too_long { IsErrOf result ShelfFault.TooLong →
         TakesMoreThan left (F.remaining file.old) (F.remaining file.new) }
@@ -98,11 +98,9 @@ fn take_portion<F: Read>(
 }
 
 // Appends these bytes.
-fn append(bytes: &mut Bytes, more: &[u8]) -> Result<(), NoMemory>
-    ensures appended { OnOk result (bytes.new ≡ bytes.old ++ more.now) }
+fn append(bytes: &mut Vec<u8>, more: &[u8]) -> Result<(), NoMemory>
+    ensures appended { OnOk result (bytes.new.items ≡ bytes.old.items ++ more.now) }
 {
-    for byte in more {
-        bytes.push(*byte)?;
-    }
+    bytes.extend_from_slice(more)?;
     Ok(())
 }

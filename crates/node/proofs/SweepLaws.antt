@@ -1,6 +1,6 @@
 -- What is pending in rows that are held, gathered and sent again each once, in the order of the ids.
 use Rattle.std.proofs.Common.{◌≡◌, ◌∙◌, ◌<◌, ◌+◌, ℕ, true, List, [], ◌∷◌, ◌++◌, length, map, refl, sym, ap, subst, arith, inl, inr}
-use Rattle.std.specs.Prelude.{All, Contains, IfSome, IsSome, Option, Some, None, slice_get, unwrap_or}
+use Rattle.std.specs.Prelude.{All, Contains, IfSome, IsSome, Option, Some, None, nat_lt, slice_get, unwrap_or}
 use Rattle.std.specs.Cmp.{IsTotalOrder, on_total, then_total, tied_itself}
 use Rattle.std.specs.List.{AllByRecursion, list_all}
 use Rattle.std.specs.List.Sorted.{IsPermutation, IsStrictlySortedBy}
@@ -9,7 +9,7 @@ use Rattle.std.specs.declared.cmp.Ordering.{Ordering}
 use Rattle.std.specs.declared.cmp.Ordering.TheVariants.{Less, Equal, Greater}
 use Rattle.std.proofs.lemmas.Bool.{cases_eq}
 use Rattle.std.proofs.lemmas.List.{append-nil}
-use Rattle.std.proofs.lemmas.List.Elements.{All-append, All-contains, All-contains_itself, All-from_recursion, All-map, All-weaker, Contains-append_left, Contains-append_right, recursion_from_All}
+use Rattle.std.proofs.lemmas.List.Elements.{All-append, All-contains, All-contains_itself, All-filter, All-from_recursion, All-map, All-weaker, Contains-append_left, Contains-append_right, recursion_from_All}
 use Rattle.std.proofs.lemmas.List.Sorted.{Contains-permutation, IsPermutation-sym}
 use Rattle.std.proofs.lemmas.List.Sums.{AllPass-from_list_all}
 use Rattle.std.proofs.lemmas.Option.{slice_get_within}
@@ -43,7 +43,7 @@ use Rattle.book.proofs.SeenRows.{told-then}
 use Rattle.holdings.specs.Holding.{AreAllHeld, HeldView, held_at, row_held}
 use Rattle.holdings.specs.Pendings.{ArePendingAmong, IsPendingAmong}
 use Rattle.holdings.specs.declared.pending.Sent.{Sent}
-use Rattle.node.specs.Answers.{IsPendingHeld, IsSwept, again_cmp}
+use Rattle.node.specs.Answers.{IsPendingHeld, IsSwept, IsSweptOlder, again_cmp, older_than}
 use Rattle.node.specs.FireSteps.{AreAllWithin}
 use Rattle.node.specs.Fits.{Fits}
 use Rattle.outbox.specs.Messages.{IsDeliverable, IsOutgoing, IsSentFrom, sent_again}
@@ -240,24 +240,36 @@ sent-addressed case desk all i s fit is =
     record { id = kept.id; stamp = kept.stamp; to = goes-there shape (length desk.seen) d goes; from = from }
 
 -- each message of a sweep may be sent
-pub again-outgoing : (case : CaseShape) (desk : DeskView) (all : List (Option HeldView)) (again : List Sent) → AreAllHeld case desk all
-    → AreAgain all again → All (IsOutgoing case desk) (map sent_again again)
-again-outgoing case desk all again fit are = All-map (IsOutgoing case desk) sent_again again
+again-outgoing : (case : CaseShape) (desk : DeskView) (all : List (Option HeldView)) (again : List Sent) → AreAllHeld case desk all
+    → All (λ (s : Sent). (i : ℕ) × IsFoundAt all i s) again → All (IsOutgoing case desk) (map sent_again again)
+again-outgoing case desk all again fit each = All-map (IsOutgoing case desk) sent_again again
     (All-weaker (λ (s : Sent). (i : ℕ) × IsFoundAt all i s) (λ (s : Sent). IsOutgoing case desk (sent_again s)) (λ s is. record {
       so = sent-so case desk all is.0 s fit is.1.at;
       addressed = sent-addressed case desk all is.0 s fit is.1;
-    }) again are.each)
+    }) again each)
 
--- a node that sends again what is pending fits
-pub Fits-swept : (case : CaseShape) (desk : DeskView) (node : NodeView) (again : List Sent) → AreAgain node.held again
-    → Fits case desk node → Fits case desk (record node { outbox = node.outbox ++ map sent_again again })
-Fits-swept case desk node again are fits = record {
+-- a node that sends again some of what is pending fits
+pub Fits-again : (case : CaseShape) (desk : DeskView) (node : NodeView) (again : List Sent)
+    → All (λ (s : Sent). (i : ℕ) × IsFoundAt node.held i s) again → Fits case desk node
+    → Fits case desk (record node { outbox = node.outbox ++ map sent_again again })
+Fits-again case desk node again each fits = record {
   of_case = fits.of_case;
   held = fits.held;
   work = fits.work;
   outbox = All-append (IsOutgoing case desk) node.outbox (map sent_again again) fits.outbox
-      (again-outgoing case desk node.held again fits.held are);
+      (again-outgoing case desk node.held again fits.held each);
 }
+
+-- and one that sends only what is older
+pub Fits-older : (case : CaseShape) (desk : DeskView) (node : NodeView) (number : ℕ) (again : List Sent) → AreAgain node.held again
+    → Fits case desk node → Fits case desk (record node { outbox = node.outbox ++ map sent_again (older_than number again) })
+Fits-older case desk node number again are fits = Fits-again case desk node (older_than number again)
+    (All-filter (λ (s : Sent). nat_lt s.delivery.id.commit number) (λ (s : Sent). (i : ℕ) × IsFoundAt node.held i s) again are.each) fits
+
+-- a node that sends again what is pending fits
+pub Fits-swept : (case : CaseShape) (desk : DeskView) (node : NodeView) (again : List Sent) → AreAgain node.held again
+    → Fits case desk node → Fits case desk (record node { outbox = node.outbox ++ map sent_again again })
+Fits-swept case desk node again are fits = Fits-again case desk node again are.each fits
 
 -- ---- by their ids
 
@@ -317,4 +329,16 @@ answers-swept case desk node again count are number fits = record {
   number = number;
   left = refl;
   told = told-ids case desk node.held again fits.held are;
+}
+
+-- what a sweep of what is older answers
+pub answers-older : (node : NodeView) (number : ℕ) (again : List Sent) (count : ℕ) → AreAgain node.held again
+    → count ≡ length (older_than number again)
+    → IsSweptOlder node (record node { outbox = node.outbox ++ map sent_again (older_than number again) }) count
+answers-older node number again count are many = record {
+  again = again;
+  sweep = are.sweep;
+  before = number;
+  number = many;
+  left = refl;
 }

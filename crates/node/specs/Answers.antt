@@ -1,7 +1,7 @@
 -- What the calls of a node answer, and what they leave of it. Each is said of the worker that the node is.
 -- Akidau et al., VLDB 2013, section 6.1 for what a worker does on receipt of a record and when it sends what
 -- it made, section 6.2 for a write under an older sequencer. Own: the other answers.
-use Rattle.std.specs.Prelude.{◌≡◌, ◌≤◌, ◌++◌, ◌∷◌, ◌⊎◌, ◌↔◌, [], ℕ, true, if◌then◌else◌, List, Option, Some, None, IfSome, length, map, Contains}
+use Rattle.std.specs.Prelude.{◌≡◌, ◌≤◌, ◌++◌, ◌∷◌, ◌⊎◌, ◌↔◌, [], ℕ, true, if◌then◌else◌, List, Option, Some, None, IfSome, filter, length, map, nat_lt, Contains}
 use Rattle.std.specs.declared.cmp.Ordering.{Ordering}
 use Rattle.std.specs.List.Sorted.{IsStrictlySortedBy}
 use Rattle.std.specs.Option.{is_some, option_map_or, option_to_list}
@@ -320,6 +320,24 @@ pub record IsSwept (desk : DeskView) (was node : NodeView) (count : ℕ) : Type 
   pub left : worker_at node ≡ with_outgoing (map sent_again again) (worker_at was)
   -- no id stands twice, where a contract can see the keeper's rows
   pub told : IfSome desk.told (λ _. IsStrictlySortedBy id_cmp (map (λ (s : Sent). s.delivery.id) again))
+
+-- those of records that are sent again which are older than the entry of this number
+abbrev pub older_than : ℕ → List Sent → List Sent
+older_than number again = filter (λ (sent : Sent). nat_lt sent.delivery.id.commit number) again
+
+-- what a sweep of what is older leaves of a worker: its messages are those of a sweep which are older than the
+-- entry of some number
+pub record IsSweptOlder (was node : NodeView) (count : ℕ) : Type 0 where
+  pub again : List Sent
+  pub sweep : IsSweep was.held again
+  pub before : ℕ
+  pub number : count ≡ length (older_than before again)
+  pub left : worker_at node ≡ with_outgoing (map sent_again (older_than before again)) (worker_at was)
+
+-- such a sweep answers how many records it sends again
+abbrev pub AnswersOlder : NodeView → NodeView → Outcome → Type 0
+AnswersOlder was node (outcomes.Queued count) = IsSweptOlder was node count
+AnswersOlder was node _ = ⊥
 
 -- a sweep answers how many records it sends again
 abbrev pub AnswersSweep : DeskView → NodeView → NodeView → Outcome → Type 0

@@ -25,6 +25,8 @@ pub struct Node<N: Seen> {
     pub(crate) held: Holdings,
     pub(crate) prepared: Option<Work>,
     pub(crate) outbox: Outbox,
+    // Behind the entries whose deliveries were pending at its last sweep of what is older.
+    pub(crate) swept: u64,
     of: PhantomData<N>,
 }
 
@@ -58,6 +60,7 @@ impl<N: Seen> Node<N> {
             held: Holdings::new(alloc),
             prepared: None,
             outbox: Outbox::new(alloc),
+            swept: 0,
             of: PhantomData,
         }
     }
@@ -105,6 +108,7 @@ impl<N: Seen> Node<N> {
         self.held.clear();
         unprepared(&mut self.prepared);
         self.outbox.clear();
+        self.swept = 0;
         Outcome::Crashed
     }
 }

@@ -4,7 +4,7 @@ ghost use Rattle.std.specs.List.Sorted.{IsPermutation, IsSorted, IsStrictlySorte
 ghost use Rattle.std.specs.Ordering.{is_eq};
 ghost use Rattle.run_history.specs.Cases.{intervals_of};
 ghost use Rattle.book.specs.Desks.{DeskView};
-ghost use Rattle.node.specs.Answers.{AnswersSweep, HasKept, again_cmp};
+ghost use Rattle.node.specs.Answers.{AnswersOlder, AnswersSweep, HasKept, again_cmp, older_than};
 ghost use Rattle.node.specs.FireSteps.{AreAllWithin};
 ghost use Rattle.node.specs.Fits.{Fits};
 ghost use Rattle.node.specs.SweepSteps.{AreAgain, AreFoundBelow, HasFoundAt, IsOnceOf, IsVouched, IsVouchedRow};
@@ -48,6 +48,56 @@ impl<N: Seen> Node<N> {
         self.outbox.put_again(again);
         Ok(Outcome::Queued { count })
     }
+
+    /// Puts what was there already at the sweep of this kind before into the outbox again, in the order
+    /// of the records' ids: of all that is pending in the rows that it has, what is older than some entry,
+    /// and nothing else. What was sent since that sweep may still be on its way. The first such sweep of a
+    /// worker sends nothing again.
+    pub fn sweep_older<D: Desk<Note = N>>(
+        &mut self,
+        alloc: Global,
+        desk: &D,
+        case: &Case,
+    ) -> Result<Outcome, NodeFault>
+        requires fits { Fits case.now (D.view desk.now) self.old }
+
+        ensures fits { Fits case.now (D.view desk.now) self.new }
+        ensures every { (known : DeskView) → Fits case.now known self.old →
+            Fits case.now known self.new }
+        ensures answers { IfOk result (AnswersOlder self.old self.new) }
+        ensures rest { self.new ≡ record self.old { outbox = self.new.outbox } }
+        ensures number { self.new.number ≡ self.old.number }
+
+        ensures kept { OnErr result (HasKept self.old self.new) }
+        ensures fault { IfErr result (λ fault. fault ≡ NodeFault.NoMemory) }
+    {
+        let _desk = desk;
+        let all = again_of(alloc, case, &self.held)?;
+        let next = behind(&all);
+        let older = older_of(all, self.swept);
+        self.outbox.make_room(older.len())?;
+        self.swept = next;
+        let count = older.len() as u64;
+        self.outbox.put_again(older);
+        Ok(Outcome::Queued { count })
+    }
+}
+
+// The number behind that of the last entry that made one of these.
+fn behind(again: &[Sent]) -> u64 {
+    match again.last() {
+        Some(sent) => sent.delivery.id.commit.saturating_add(1),
+        None => 0,
+    }
+}
+
+// Those of these that are older than the entry of this number.
+fn older_of(again: Vec<Sent>, number: u64) -> Vec<Sent>
+    ensures { result.items ≡ older_than number again.items }
+{
+    let mut older = again;
+    older.retain(|sent| sent.delivery.id.commit < number);
+    older
 }
 
 // All that is pending in rows that are held, in the order of the records' ids.

@@ -6,12 +6,12 @@ ghost use Rattle.workers.specs.Claims.{HasLeased};
 ghost use Rattle.workers.specs.Crews.{HasClaimedOne, HasFaultCause, HasGoneOn};
 ghost use Rattle.workers.specs.Tries.{IsClaimed};
 
+use crate::waiting::wait;
 use book::{Desk, Seen};
 use node::{Node, NodeFault, Outcome};
 use run_history::Case;
 use std::alloc::Global;
 use std::sync::Wait;
-use std::thread;
 
 // Whether an interval was claimed.
 fn is_claimed(outcome: &Outcome) -> bool
@@ -48,12 +48,13 @@ pub(crate) fn claim<R: Wait, N: Seen, D: Desk<Note = N>>(
     ensures loan { D.loan desk.new ≡ D.loan desk.old }
     ensures home { D.home desk.new ≡ D.home desk.old }
 {
+    let mut waited = 0;
     for _ in rt.forever() {
         let outcome = node.claim(alloc, desk, case, interval)?;
         if is_claimed(&outcome) {
             return Ok(());
         }
-        thread::yield_now();
+        waited = wait(rt, waited);
     }
     unreachable!()
 }

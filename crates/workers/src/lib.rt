@@ -48,6 +48,7 @@ mod taking;
 mod telling;
 mod tries;
 mod turns;
+mod waiting;
 
 pub use ended::Rounds;
 pub use hand::Hand;

@@ -7,13 +7,13 @@ ghost use Rattle.workers.specs.Serving.{HasServed, IsBusy, entries_of, lines_tol
 ghost use Rattle.workers.specs.Slices.{HasLinesOf, IsSliceFault};
 
 use crate::calls::Call;
+use crate::waiting::wait;
 use book::{Desk, Seen};
 use mw_types::{RecordId, RowName};
 use node::{Node, NodeFault, Outcome};
 use run_history::Case;
 use std::alloc::Global;
 use std::sync::Wait;
-use std::thread;
 
 // Whether another had the turn.
 fn is_busy(answer: &Result<Outcome, NodeFault>) -> bool
@@ -49,12 +49,13 @@ pub(crate) fn until_free<R: Wait, N: Seen, D: Desk<Note = N>, A: Call<N>>(
     ensures loan { D.loan desk.new ≡ D.loan desk.old }
     ensures home { D.home desk.new ≡ D.home desk.old }
 {
+    let mut waited = 0;
     for _ in rt.forever() {
         let answer = call.make(alloc, node, desk, case);
         if !is_busy(&answer) {
             return answer;
         }
-        thread::yield_now();
+        waited = wait(rt, waited);
     }
     unreachable!()
 }
@@ -82,12 +83,13 @@ pub(crate) fn until_settled<R: Wait, N: Seen, D: Desk<Note = N>>(
     ensures loan { D.loan desk.new ≡ D.loan desk.old }
     ensures home { D.home desk.new ≡ D.home desk.old }
 {
+    let mut waited = 0;
     for _ in rt.forever() {
         let answer = node.settle(alloc, desk, case, to, id);
         if !is_busy(&answer) {
             return answer;
         }
-        thread::yield_now();
+        waited = wait(rt, waited);
     }
     unreachable!()
 }

@@ -53,7 +53,7 @@ fn settle_up<R: Wait, N: Seen, D: Desk<Note = N>, J: Office>(
     Ok(())
 }
 
-// In each fourth round, what is pending is to be sent again, and rows forget ids.
+// In each fourth round, what was pending at the fourth before is to be sent again, and rows forget ids.
 fn tidy<R: Wait, N: Seen, D: Desk<Note = N>>(
     rt: &R,
     alloc: Global,
@@ -73,7 +73,7 @@ fn tidy<R: Wait, N: Seen, D: Desk<Note = N>>(
     if round % 4 != 0 {
         return Ok(());
     }
-    node.sweep(alloc, &*desk, case)?;
+    node.sweep_older(alloc, &*desk, case)?;
     purge_all(rt, alloc, node, desk, case)
 }
 

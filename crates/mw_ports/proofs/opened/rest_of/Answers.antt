@@ -1,4 +1,5 @@
-use Rattle.std.proofs.Common.{rules}
+use Rattle.std.proofs.Common.{rules, ℕ, List, Ok, subst, sym}
+use Rattle.mw_ports.specs.Readers.{ReadsAll}
 use Rattle.mw_ports.proofs.Takings.{ReadsFile-all, ReadsFile-refused, Consumes-moves, TakesMoreThan-all, TakesAtMost-all}
 use Rattle.mw_ports.proofs.opened.rest_of.Goals as goal
 
@@ -18,7 +19,8 @@ pub returns-then-count-eq0-clause-told : goal.returns-then-count-eq0-clause-told
 returns-then-count-eq0-clause-told g c =
     let kept = c.loop-left.invariant in
     let given = c.in_ok-count.ensures in
-    ReadsFile-all _ _ _ _ (Consumes-moves _ _ _ _ _ _ kept.1 given.moved) (given.end (search rules))
+    subst (λ (l : List ℕ). ReadsAll (g.F.Read.remaining c.args.file.now) c.args.limit (Ok l)) (sym c.from_vec.ensures)
+    (ReadsFile-all _ _ _ _ (Consumes-moves _ _ _ _ _ _ kept.1 given.moved) (given.end (search rules)))
 
 pub returns-then-count-eq0-clause-most : goal.returns-then-count-eq0-clause-most
 returns-then-count-eq0-clause-most g c =
