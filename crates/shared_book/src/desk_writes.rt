@@ -11,7 +11,7 @@ ghost use Rattle.book.specs.Proposals.{IsProposable};
 ghost use Rattle.shared_book.specs.SharedDesks.{HasKept, shared_view};
 ghost use Rattle.shared_book.specs.Turns.{IsHere, IsIdle};
 
-use crate::finishing::finish;
+use crate::finishing::give_at;
 use crate::in_turn::write_in;
 use crate::seats::Seat;
 use crate::shared::Shared;
@@ -64,7 +64,7 @@ pub(crate) fn write_once<K: Keeper>(
         return Err(DeskRefusal::Busy { found });
     }
     let result = write_in(alloc, shared, &mut seat.place, lease, name, row, proposal);
-    finish(shared, seat);
+    give_at(shared, seat);
     match result {
         Ok(commit) => Ok(commit),
         Err(why) => Err(DeskRefusal::of_write(why)),
@@ -111,7 +111,7 @@ pub(crate) fn settle_once<K: Keeper>(
         return Err(DeskRefusal::Busy { found });
     }
     let result = settle_in(alloc, shared, &mut seat.place, lease, name, row, id);
-    finish(shared, seat);
+    give_at(shared, seat);
     match result {
         Ok(commit) => Ok(commit),
         Err(why) => Err(DeskRefusal::of_write(why)),
@@ -159,7 +159,7 @@ pub(crate) fn purge_once<K: Keeper>(
         return Err(DeskRefusal::Busy { found });
     }
     let result = purge_in(alloc, shared, &mut seat.place, lease, name, row, floor);
-    finish(shared, seat);
+    give_at(shared, seat);
     match result {
         Ok(commit) => Ok(commit),
         Err(why) => Err(DeskRefusal::of_write(why)),

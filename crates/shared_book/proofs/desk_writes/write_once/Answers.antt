@@ -38,7 +38,7 @@ returns-in-Ok-clause-written g c =
     let t = c.take-found.new.seat.place.me.0 in
     let r = c.write_in-result in
     let w = r.new.place.me in
-    let f = c.finish in
+    let f = c.give_at in
     given (λ u. HasWritten (shared_view v) (shared_view u) c.args.lease.now c.args.name.now c.args.proposal.now c.args.row.now (answer_of c.in-Ok.commit r.new.row))
     w f.new.seat.place.me f.ensures.view
     (written-by v t w.0 (c.take-found.ensures.taken c.if-found-ne0.false) r.ensures.basis
@@ -50,7 +50,7 @@ returns-in-Err-clause-looked g c =
     let t = c.take-found.new.seat.place.me.0 in
     let r = c.write_in-result in
     let w = r.new.place.me in
-    let f = c.finish in
+    let f = c.give_at in
     given (λ u. HasLooked (shared_view v) (shared_view u)) w f.new.seat.place.me f.ensures.view
     (looked-refused v t w.0 (c.take-found.ensures.taken c.if-found-ne0.false) r.ensures.basis
     (refused-write t w.0 c.in-Err.why c.in-Err.ensures.fault c.in-Err.ensures.unchanged))
@@ -61,7 +61,7 @@ returns-in-Err-clause-reason g c =
     let t = c.take-found.new.seat.place.me.0 in
     let r = c.write_in-result in
     let w = r.new.place.me in
-    let f = c.finish in
+    let f = c.give_at in
     let why = c.in-Err.why in
     let refused = refused-write t w.0 why c.in-Err.ensures.fault c.in-Err.ensures.unchanged in
     subst (HasReason (shared_view v) (shared_view f.new.seat.place.me.0) c.args.lease.now) (sym c.of_write.ensures)
@@ -83,7 +83,7 @@ returns-in-Ok-clause-marks g c =
     let t = c.take-found.new.seat.place.me.0 in
     let r = c.write_in-result in
     let w = r.new.place.me in
-    let f = c.finish in
+    let f = c.give_at in
     given (λ u. KeepsMarks (shared_view v) (shared_view u)) w f.new.seat.place.me f.ensures.view
     (marks-grown v t w.0 (c.take-found.ensures.taken c.if-found-ne0.false) r.ensures.basis c.in-Ok.ensures.written.view)
 
@@ -93,7 +93,7 @@ returns-in-Err-clause-marks g c =
     let t = c.take-found.new.seat.place.me.0 in
     let r = c.write_in-result in
     let w = r.new.place.me in
-    let f = c.finish in
+    let f = c.give_at in
     given (λ u. KeepsMarks (shared_view v) (shared_view u)) w f.new.seat.place.me f.ensures.view
     (marks-refused v t w.0 (c.take-found.ensures.taken c.if-found-ne0.false) r.ensures.basis (refused-write t w.0 c.in-Err.why c.in-Err.ensures.fault c.in-Err.ensures.unchanged))
 
@@ -106,9 +106,9 @@ invariant_of-seat g c =
     let p = c.take-found.new.seat in
     let v = p.place.me.0 in
     let r = c.write_in-result in
-    let has = arrays-write v r.new.place.me.0 p.marks p.claims p.inputs c.args.lease.now c.args.name.now c.args.proposal.now
+    let has = arrays-write v r.new.place.me.0 p.settled p.marks p.claims p.inputs c.args.lease.now c.args.name.now c.args.proposal.now
     c.args.row.now r.new.row r.result r.ensures.written r.ensures.fault r.ensures.unchanged
-    (record { loaded = p.loaded; claimed = p.claimed; fed = p.fed; long = p.long; there = p.there }) in
+    (record { loaded = p.loaded; claimed = p.claimed; fed = p.fed; long = p.long; there = p.there; current = p.current }) in
     record {
       numbered = ap first_of r.ensures.numbers ∙ p.numbered;
       small = p.small;
@@ -118,4 +118,5 @@ invariant_of-seat g c =
       fed = has.fed;
       long = has.long;
       there = has.there;
+      current = has.current;
     }
