@@ -1,6 +1,6 @@
 -- What the calls of a desk leave, by what they did in a turn.
 use Rattle.std.proofs.Common.{inl, ◌≡◌, ◌≢◌, ◌∙◌, ◌≤◌, ◌++◌, ◌∷◌, ℕ, true, List, [], length, drop, take, refl, sym, ap, subst, arith}
-use Rattle.std.specs.Prelude.{◌↔◌, Err, IsErrOf, None}
+use Rattle.std.specs.Prelude.{◌↔◌, Err, IfErr, IfOk, IsErrOf, None, Ok, Result}
 use Rattle.std.proofs.lemmas.List.{append-nil}
 use Rattle.mw_types.specs.Causes.{HasCause, Rose}
 use Rattle.mw_types.specs.declared.entry.Entry.{Entry}
@@ -171,12 +171,22 @@ fault-rose : (t w : View) → HasFaulted t w → Rose t.faults w.faults
 fault-rose t w fault = let one = ap (λ (x : View). x.faults) fault.2 in omega (arith, one)
 
 -- a write that was refused
-pub refused-write : {T : Type 0} (t w : View) (why : WriteRefusal)
-    → (IsErrOf {T = T} (Err why) writes.KeeperFault → HasFaulted t w) → ((why ≢ writes.KeeperFault) → w ≡ t) → IsRefused t w
-refused-write t w writes.KeeperFault fault same = refused-fault t w (fault refl)
-refused-write t w (writes.Stale newer) fault same = refused-same t w (same (λ e. cc))
-refused-write t w writes.HistoryFull fault same = refused-same t w (same (λ e. cc))
-refused-write t w writes.NoMemory fault same = refused-same t w (same (λ e. cc))
+pub refused-write : (t w : View) (r : Result ℕ WriteRefusal) (why : WriteRefusal) → r ≡ Err why
+    → (IsErrOf r writes.KeeperFault → HasFaulted t w) → IfErr r (λ why. (why ≢ writes.KeeperFault) → w ≡ t) → IsRefused t w
+refused-write t w r why is faulted stayed = by_why why
+    (subst (λ (x : Result ℕ WriteRefusal). IsErrOf x writes.KeeperFault → HasFaulted t w) is faulted)
+    (subst (λ (x : Result ℕ WriteRefusal). IfErr x (λ why. (why ≢ writes.KeeperFault) → w ≡ t)) is stayed)
+  where
+    by_why : (why : WriteRefusal) → (IsErrOf {T = ℕ} (Err why) writes.KeeperFault → HasFaulted t w)
+        → ((why ≢ writes.KeeperFault) → w ≡ t) → IsRefused t w
+    by_why writes.KeeperFault fault same = refused-fault t w (fault refl)
+    by_why (writes.Stale newer) fault same = refused-same t w (same (λ e. cc))
+    by_why writes.HistoryFull fault same = refused-same t w (same (λ e. cc))
+    by_why writes.NoMemory fault same = refused-same t w (same (λ e. cc))
+
+-- what is said of a write that was accepted
+pub accepted : (P : ℕ → Type 0) (r : Result ℕ WriteRefusal) (commit : ℕ) → r ≡ Ok commit → IfOk r P → P commit
+accepted P r commit is = subst (λ (x : Result ℕ WriteRefusal). IfOk x P) is
 
 -- and a claim
 pub refused-claim : (t w : View) (why : ClaimRefusal)
@@ -337,14 +347,17 @@ module _ (v t w : View) (taken : HasTaken v t) (basis : w.basis ≡ t.basis) whe
   none-found found e = let long : 0 ≡ 1 = ap length e in omega (arith, long)
 
   -- a write
-  pub reason-write : {T : Type 0} (lease : LeaseView) (why : WriteRefusal) → IsRefused t w
-      → (IsErrOf {T = T} (Err why) writes.KeeperFault → HasFaulted t w)
-      → IsStaleWhere {T = T} t.front lease (Err why) → IsFullWhere {T = T} t.basis.limit t.front lease (Err why)
+  pub reason-write : (lease : LeaseView) (result : Result ℕ WriteRefusal) (why : WriteRefusal) → result ≡ Err why → IsRefused t w
+      → (IsErrOf result writes.KeeperFault → HasFaulted t w)
+      → IsStaleWhere t.front lease result → IsFullWhere t.basis.limit t.front lease result
       → HasReason (shared_view v) (shared_view (released w)) lease (of_write why)
-  reason-write {T} lease why refused fault stale full =
-      let cause : HasCause {T = T} t.faults w.faults (Err why) writes.KeeperFault =
+  reason-write lease result why is refused faulted stale full =
+      let fault = subst (λ (x : Result ℕ WriteRefusal). IsErrOf x writes.KeeperFault → HasFaulted t w) is faulted in
+      let cause : HasCause {T = ℕ} t.faults w.faults (Err why) writes.KeeperFault =
       record { later = refused.faults; rose = λ e. fault-rose t w (fault e) } in
-      let r = reason (book_of t) (book_of w) lease why (stayed refused) same_book cause stale full in record {
+      let r = reason (book_of t) (book_of w) lease why (stayed refused) same_book cause
+      (subst (λ (x : Result ℕ WriteRefusal). IsStaleWhere t.front lease x) is stale)
+      (subst (λ (x : Result ℕ WriteRefusal). IsFullWhere t.basis.limit t.front lease x) is full) in record {
         stale = r.stale;
         full = r.full;
         counts = record {

@@ -1,5 +1,5 @@
 -- Beginnings of a history, and which of its entries carry a sequencer.
-use Rattle.std.proofs.Common.{inl, inr, ◌≡◌, ◌≢◌, ◌⊎◌, ℕ, zero, suc, ◌<◌, ◌≤◌, List, [], ◌∷◌, ◌++◌, drop, length, take, refl, sym, ap, ◌∙◌, subst, ⊎_elim, arith, append_assoc, length-append}
+use Rattle.std.proofs.Common.{inl, inr, ◌≡◌, ◌≢◌, ◌⊎◌, ℕ, zero, suc, ◌<◌, ◌≤◌, false, cond, List, [], ◌∷◌, ◌++◌, drop, length, take, refl, sym, ap, ◌∙◌, subst, ⊎_elim, arith, append_assoc, length-append}
 use Rattle.std.specs.Prelude.{Option, Some, None, slice_get}
 use Rattle.std.specs.Option.{option_and_then}
 use Rattle.std.specs.List.{AllByRecursion}
@@ -14,9 +14,9 @@ use Rattle.run_history.specs.Made.{row_written}
 use Rattle.run_history.specs.Cases.{CaseShape}
 use Rattle.run_history.specs.Runs.{Run, empty_run, followed}
 use Rattle.run_history.specs.Legal.{IsLegal, AreLegal}
-use Rattle.run_history.specs.Fences.{Begins, IsClaimed, IsFenced, CarryNot, HasSeenAll, interval_of, last_claim, sequencer_of}
+use Rattle.run_history.specs.Fences.{Begins, IsClaimed, IsFenced, CarryNot, HasSeenAll, interval_of, is_claim, last_claim, sequencer_of}
 use Rattle.list_lemmas.proofs.Lists.{some_same, none_some}
-use Rattle.run_history.proofs.Claims.{last_claim-within}
+use Rattle.run_history.proofs.Claims.{last_claim-push, last_claim-within}
 use Rattle.run_history.proofs.Fenced.{IsFenced-at}
 use Rattle.run_history.proofs.Beginnings.{Begins-at, slice_get-more, slice_get-last}
 use Rattle.book.specs.Books.{LeaseView}
@@ -65,6 +65,20 @@ on_row (Handle q row id effects) seq carries = (_, refl)
 on_row (Fire q row timer mark effects) seq carries = (_, refl)
 on_row (Ack q row id) seq carries = (_, refl)
 on_row (Purge q row floor) seq carries = (_, refl)
+
+-- and leaves each last claim
+pub last_claim-carried : (i seq : ℕ) (history : List Entry) (entry : Entry) → sequencer_of entry ≡ Some seq
+    → last_claim i (history ++ entry ∷ []) ≡ last_claim i history
+last_claim-carried i seq history entry carries =
+    last_claim-push i history entry ∙ ap (λ b. cond b (Some (length history)) (last_claim i history)) (no_claim entry carries)
+  where
+    no_claim : (e : Entry) → sequencer_of e ≡ Some seq → is_claim i e ≡ false
+    no_claim (Claim worker interval) is = absurd (none_some seq is)
+    no_claim (Inject s part line item) is = refl
+    no_claim (Handle s row id effects) is = refl
+    no_claim (Fire s row timer mark effects) is = refl
+    no_claim (Ack s row id) is = refl
+    no_claim (Purge s row floor) is = refl
 
 -- a sequencer is below the number of each entry of a fenced history that carries it
 pub carried_below : (shape : Shape) (history : List Entry) (at seq : ℕ) (entry : Entry) → IsFenced shape history

@@ -17,6 +17,7 @@ pub mod Starting
 pub mod Allowing
 pub mod Arrays
 pub mod Filling
+pub mod Staying
 pub mod SeatArrays
 pub mod Told
 pub mod Calls

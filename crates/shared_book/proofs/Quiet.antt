@@ -11,7 +11,7 @@ use Rattle.mw_types.specs.declared.entry.Entry.TheVariants.{Claim, Inject, Handl
 use Rattle.mw_types.specs.declared.identity.RowName.{RowName}
 use Rattle.topology.specs.Shapes.{Shape}
 use Rattle.run_history.specs.Made.{row_written}
-use Rattle.run_history.specs.Fences.{IsClaimed, IsCurrent, IsFenced, interval_of, is_claim, last_claim, sequencer_of}
+use Rattle.run_history.specs.Fences.{IsClaimed, IsCurrent, IsFenced, interval_of, last_claim, sequencer_of}
 use Rattle.run_history.specs.Watermarks.{least}
 use Rattle.watermark.specs.Marks.{feeding_marks}
 use Rattle.run_history.proofs.Beginnings.{Begins-itself}
@@ -24,7 +24,7 @@ use Rattle.shared_book.specs.FenceLaw.{AreClaimed, IsQuiet, IsQuietPlace, sequen
 use Rattle.shared_book.specs.Lists.{IsIn}
 use Rattle.shared_book.specs.Places.{claimed_now, newest, nothing, place_of, place_after, places_after, settled_by, is_last}
 use Rattle.shared_book.specs.Steps.{lease_in}
-use Rattle.shared_book.proofs.Histories.{all_below, below_push, on_row, seq_of_lease}
+use Rattle.shared_book.proofs.Histories.{all_below, below_push, last_claim-carried, on_row, seq_of_lease}
 use Rattle.shared_book.proofs.Lists.{in_left, in_right}
 use Rattle.shared_book.proofs.Places.{place-after, place-newest, place-none}
 
@@ -75,18 +75,6 @@ carried-last shape h e i seq fenced claimed carries =
         let same : j ≡ i = ap interval_in (some_same (Claim there.0 j) (Claim claimed.0 i) (sym there.1 ∙ claimed.1)) in
         subst (λ k. IsCurrent k seq h) same is
 
--- an entry that carries a sequencer leaves each last claim
-last-stays : (i seq q : ℕ) (h : List Entry) (e : Entry) → sequencer_of e ≡ Some q → IsCurrent i seq h → IsCurrent i seq (h ++ e ∷ [])
-last-stays i seq q h e carries last = last_claim-push i h e ∙ ap (λ b. cond b (Some (length h)) (last_claim i h)) (no_claim e carries) ∙ last
-  where
-    no_claim : (e : Entry) → sequencer_of e ≡ Some q → is_claim i e ≡ false
-    no_claim (Claim worker interval) is = absurd (none_some q is)
-    no_claim (Inject s part line item) is = refl
-    no_claim (Handle s row id effects) is = refl
-    no_claim (Fire s row timer mark effects) is = refl
-    no_claim (Ack s row id) is = refl
-    no_claim (Purge s row floor) is = refl
-
 -- of a seat without the turn, where no lease of it is the entry's
 pub quiet-stays : (h : List Entry) (e : Entry) (u : View) → (u.turn ≡ true → ⊥)
     → ((seq : ℕ) → IsIn seq (sequencers u.leases) → sequencer_of e ≡ Some seq → ⊥) → IsQuiet h u → IsQuiet (h ++ e ∷ []) u
@@ -109,11 +97,11 @@ quiet-own shape h e q v w i place fenced carries claimed leases turn quiet = rec
       (λ below. dite (ℕ_discrete q seq)
       (λ same. inr (
         turn,
-        last-stays i seq q h e carries
-            (carried-last shape h e i seq fenced (claimed (record { interval = i; seq = seq }) (quiet.held seq is)) (carries ∙ ap Some same)),
+        last_claim-carried i q h e carries
+            ∙ carried-last shape h e i seq fenced (claimed (record { interval = i; seq = seq }) (quiet.held seq is)) (carries ∙ ap Some same),
       ))
       (λ other. inl (below_push h e seq place.base below (λ bears. other (some_same q seq (sym carries ∙ bears))))))
-      (λ x. inr (turn, last-stays i seq q h e carries x.1))
+      (λ x. inr (turn, last_claim-carried i q h e carries ∙ x.1))
       (quiet.quiet seq is);
 }
 

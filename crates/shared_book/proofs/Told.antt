@@ -8,7 +8,7 @@ use Rattle.mw_types.specs.Causes.{Rose}
 use Rattle.mw_types.specs.declared.entry.Entry.{Entry}
 use Rattle.run_history.specs.Legal.{floor_of}
 use Rattle.run_history.specs.Runs.{run_of, row_in}
-use Rattle.run_history.specs.Fences.{IsFenced, HasSeenAll, known}
+use Rattle.run_history.specs.Fences.{Begins, IsFenced, HasSeenAll, known}
 use Rattle.history_laws.proofs.FenceLaws.{row_in-known}
 use Rattle.book.specs.Books.{CoreView, LeaseView}
 use Rattle.book.specs.Lawful.{IsLawful}
@@ -21,13 +21,14 @@ use Rattle.shared_book.specs.Joins.{first_of, others_of}
 use Rattle.shared_book.specs.MarkSteps.{LoadsFloor, LoadsMark, MayRaise, RaisesFloor, RaisesMark}
 use Rattle.shared_book.specs.Opening.{SharedLaw}
 use Rattle.shared_book.specs.Places.{PLACES, with_floor_loaded}
-use Rattle.shared_book.specs.Steps.{SeatView, HasFound, Takes, Appends, GivesBack, Faults, Looks, IsTold, IsNext, faults_in, grown, history_in, faulted, holding, missing, lease_in}
+use Rattle.shared_book.specs.Steps.{SeatView, HasFound, HasSeenSettled, Takes, Appends, GivesBack, Faults, Looks, IsTold, IsNext, faults_in, grown, history_in, faulted, holding, missing, lease_in}
 use Rattle.shared_book.specs.Turns.{HasTaken, HasTurn, IsGrown}
 use Rattle.shared_book.proofs.Lists.{drop_front, in_append}
 use Rattle.shared_book.proofs.Histories.{begins_more, claim_kept, seen_all, seq_of_lease}
 use Rattle.shared_book.proofs.Allowing.{loads_floor, loads_mark, raises_floor, raises_mark}
 use Rattle.shared_book.proofs.Moves.{takes_turn}
-use Rattle.shared_book.proofs.SeatArrays.{HasArrays, arrays-same}
+use Rattle.shared_book.proofs.SeatArrays.{HasArrays, arrays-moved, arrays-same}
+use Rattle.shared_book.proofs.Staying.{settled-longer}
 use Rattle.shared_book.proofs.Appending.{appends_one, gives_turn, faults_one, looks_on, news_claimed}
 use Rattle.shared_book.proofs.Starting.{lift}
 
@@ -271,12 +272,20 @@ turn_floor old new floor is t = subst HasTurn (sym is) (record {
   claimed = t.claimed;
 })
 
+-- what a try tells of a seat that looked before, it tells of the seat as it was
+pub told_seen : (found : ℕ) (v seen w : SeatView) → seen ≡ v → IsTold seen found w → IsTold v found w
+told_seen found v seen w same = subst (λ (m : SeatView). IsTold m found w) same
+
 -- a try for the turn leaves what the seat's arrays have
-pub told_arrays : (found : ℕ) (v w : SeatView) (marks claims inputs : List ℕ) → v.1 ≡ [] → IsTold v found w
-    → HasArrays v.0 marks claims inputs → HasArrays w.0 marks claims inputs
-told_arrays zero v w marks claims inputs empty told =
+pub told_arrays : (found : ℕ) (v w : SeatView) (settled : Bool) (marks claims inputs : List ℕ) → v.1 ≡ [] → HasSeenSettled v.0 → IsTold v found w
+    → HasArrays v.0 settled marks claims inputs → HasArrays w.0 settled marks claims inputs
+told_arrays zero v w settled marks claims inputs empty seen told has =
     let e : w.0 ≡ holding v.0 told.0 = ap (λ (m : SeatView). m.0) told.1 in
-    arrays-same v.0 w.0 marks claims inputs (ap (λ (u : View). u.basis) e) (ap (λ (u : View). u.marks) e) (ap (λ (u : View). u.settled) e) (ap (λ (u : View). u.leases) e)
-told_arrays (suc n) v w marks claims inputs empty told =
+    arrays-moved v.0 w.0 settled marks claims inputs (ap (λ (u : View). u.basis) e) (ap (λ (u : View). u.marks) e)
+    (ap (λ (u : View). u.settled) e) (ap (λ (u : View). u.leases) e)
+    (settled-longer v.0 w.0.front marks claims inputs has.claimed seen
+    (subst (Begins v.0.front) (sym (ap (λ (u : View). u.front) e)) told.2.begins)) has
+told_arrays (suc n) v w settled marks claims inputs empty seen told has =
     let e : w.0 ≡ missing v.0 (suc n) = ap (λ (m : SeatView). m.0) (missed_turn (suc n) v w told (λ z. omega (arith, z))) in
-    arrays-same v.0 w.0 marks claims inputs (ap (λ (u : View). u.basis) e) (ap (λ (u : View). u.marks) e) (ap (λ (u : View). u.settled) e) (ap (λ (u : View). u.leases) e)
+    arrays-same v.0 w.0 settled marks claims inputs (ap (λ (u : View). u.basis) e) (ap (λ (u : View). u.marks) e)
+    (ap (λ (u : View). u.settled) e) (ap (λ (u : View). u.leases) e) (ap (λ (u : View). u.front) e) has

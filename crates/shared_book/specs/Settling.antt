@@ -5,7 +5,7 @@ use Rattle.topology.specs.Shapes.{Shape, feeds_of}
 use Rattle.run_history.specs.Cases.{intervals_of}
 use Rattle.run_history.specs.Watermarks.{least}
 use Rattle.watermark.specs.Marks.{feeding_marks, mark_of, numbers_in}
-use Rattle.shared_book.specs.Places.{is_last}
+use Rattle.shared_book.specs.Places.{PLACES, is_last}
 
 -- the least of the marks that feed a part, as they were loaded
 abbrev pub least_of : Shape → List ℕ → ℕ → ℕ
@@ -31,3 +31,9 @@ pub record IsFilledTo (made : ℕ → ℕ) (old : List ℕ) (at : ℕ) (new : Li
 abbrev pub AreSettledTo : Shape → List Entry → List ℕ → List ℕ → List ℕ → ℕ → List ℕ → Type 0
 AreSettledTo shape history loaded claims old =
     IsFilledTo (λ (k : ℕ). input_after shape history loaded k (slice_index claims k) (slice_index old k)) old
+
+-- the input marks are settled: where the last claim of an interval is the seat's, its input mark is the least of the
+-- marks that feed it
+abbrev pub AreSettled : Shape → List Entry → List ℕ → List ℕ → List ℕ → Type 0
+AreSettled shape history loaded claims inputs = (k : ℕ) → k < PLACES →
+    input_after shape history loaded k (slice_index claims k) (slice_index inputs k) ≡ slice_index inputs k

@@ -5,7 +5,7 @@ ghost use Rattle.shared_book.specs.Guards.{HasMissed};
 ghost use Rattle.shared_book.specs.SharedDesks.{HasKept, shared_home, shared_view};
 ghost use Rattle.shared_book.specs.Turns.{HasCaughtUp, IsHere, IsIdle};
 
-use crate::finishing::finish;
+use crate::finishing::give_at;
 use crate::seats::Seat;
 use crate::shared::Shared;
 use crate::shared_desk::SharedDesk;
@@ -58,6 +58,6 @@ fn turn_once<K: Keeper>(shared: &Shared<'_, K>, seat: &mut Seat<K>) -> Result<()
     if found != 0 {
         return Err(Busy { found });
     }
-    finish(shared, seat);
+    give_at(shared, seat);
     Ok(())
 }

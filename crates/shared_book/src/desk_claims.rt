@@ -7,7 +7,7 @@ ghost use Rattle.book.specs.Desks.{HasLooked, KeepsMarks};
 ghost use Rattle.shared_book.specs.SharedDesks.{HasKept, shared_view};
 ghost use Rattle.shared_book.specs.Turns.{IsHere, IsIdle};
 
-use crate::finishing::finish;
+use crate::finishing::give_at;
 use crate::seats::Seat;
 use crate::shared::Shared;
 use crate::slots::take;
@@ -48,7 +48,7 @@ pub(crate) fn claim_once<K: Keeper>(
         return Err(DeskRefusal::Busy { found });
     }
     let result = claim_at(alloc, shared, seat, worker, interval);
-    finish(shared, seat);
+    give_at(shared, seat);
     match result {
         Ok(claimed) => Ok(claimed),
         Err(why) => Err(DeskRefusal::of_claim(why)),

@@ -63,8 +63,16 @@ pub(crate) fn write_once<K: Keeper>(
     if found != 0 {
         return Err(DeskRefusal::Busy { found });
     }
-    let result = write_in(alloc, shared, &mut seat.place, lease, name, row, proposal);
-    finish(shared, seat);
+    let (result, floor_after) = write_in(
+        alloc,
+        shared,
+        &mut seat.place,
+        lease,
+        name,
+        row,
+        proposal,
+    );
+    finish(shared, seat, floor_after);
     match result {
         Ok(commit) => Ok(commit),
         Err(why) => Err(DeskRefusal::of_write(why)),
@@ -110,8 +118,8 @@ pub(crate) fn settle_once<K: Keeper>(
     if found != 0 {
         return Err(DeskRefusal::Busy { found });
     }
-    let result = settle_in(alloc, shared, &mut seat.place, lease, name, row, id);
-    finish(shared, seat);
+    let (result, floor_after) = settle_in(alloc, shared, &mut seat.place, lease, name, row, id);
+    finish(shared, seat, floor_after);
     match result {
         Ok(commit) => Ok(commit),
         Err(why) => Err(DeskRefusal::of_write(why)),
@@ -158,8 +166,8 @@ pub(crate) fn purge_once<K: Keeper>(
     if found != 0 {
         return Err(DeskRefusal::Busy { found });
     }
-    let result = purge_in(alloc, shared, &mut seat.place, lease, name, row, floor);
-    finish(shared, seat);
+    let (result, floor_after) = purge_in(alloc, shared, &mut seat.place, lease, name, row, floor);
+    finish(shared, seat, floor_after);
     match result {
         Ok(commit) => Ok(commit),
         Err(why) => Err(DeskRefusal::of_write(why)),

@@ -1,6 +1,8 @@
 //! The calls of a book, in a turn: the book is taken out of its place, called, and put back.
 ghost use Rattle.std.specs.Prelude.{◌≡◌, ◌≢◌, IfErr, IfOk, IsErrOf, OnErr, true, false};
 ghost use Rattle.mw_types.specs.Causes.{Rose};
+ghost use Rattle.run_history.specs.Legal.{floor_of};
+ghost use Rattle.run_history.specs.Runs.{run_of};
 ghost use Rattle.book.specs.Answers.{IsFullWhere, IsStaleWhere, answer_of};
 ghost use Rattle.book.specs.Proposals.{IsProposable};
 ghost use Rattle.book.specs.declared.refusals.WriteRefusal.TheVariants as refusals;
@@ -17,7 +19,7 @@ use row_keeper::Keeper;
 use row_parts::Row;
 use std::alloc::Global;
 
-// A write in a turn, on a row that is changed where it lies.
+// A write in a turn, on a row that is changed where it lies. It answers the floor of the history too.
 pub(crate) fn write_in<K: Keeper>(
     alloc: Global,
     shared: &Shared<'_, K>,
@@ -26,7 +28,7 @@ pub(crate) fn write_in<K: Keeper>(
     name: &RowName,
     row: &mut Row,
     proposal: &Proposal,
-) -> Result<u64, WriteRefusal>
+) -> (Result<u64, WriteRefusal>, u64)
     requires here { IsHere shared.now.table.shared.table_id shared.now.case.now place.old }
     requires turn { HasTurn place.old.me }
     requires lease { MayWrite place.old.me.0 lease.now name.now }
@@ -38,29 +40,32 @@ pub(crate) fn write_in<K: Keeper>(
     ensures turn { HasTurn place.new.me }
     ensures numbers { place.new.me.0.numbers ≡ place.old.me.0.numbers }
     ensures basis { place.new.me.0.basis ≡ place.old.me.0.basis }
-    ensures written { IfOk result (λ commit. HasWrittenIn place.old.me.0 place.new.me.0
+    ensures written { IfOk result.0 (λ commit. HasWrittenIn place.old.me.0 place.new.me.0
         lease.now name.now proposal.now row.old (answer_of commit row.new)) }
-    ensures row { OnErr result (row.new ≡ row.old) }
-    ensures stale { IsStaleWhere place.old.me.0.front lease.now result }
-    ensures full { IsFullWhere place.old.me.0.basis.limit place.old.me.0.front lease.now result }
-    ensures fault { IsErrOf result WriteRefusal.KeeperFault →
+    ensures row { OnErr result.0 (row.new ≡ row.old) }
+    ensures stale { IsStaleWhere place.old.me.0.front lease.now result.0 }
+    ensures full { IsFullWhere place.old.me.0.basis.limit place.old.me.0.front lease.now result.0 }
+    ensures fault { IsErrOf result.0 WriteRefusal.KeeperFault →
         HasFaulted place.old.me.0 place.new.me.0 }
-    ensures unchanged { IfErr result (λ why. (why ≢ refusals.KeeperFault) →
+    ensures unchanged { IfErr result.0 (λ why. (why ≢ refusals.KeeperFault) →
         place.new.me.0 ≡ place.old.me.0) }
+    ensures floor_after { let v = place.new.me.0 in
+        result.1 ≡ floor_of (run_of v.basis.case.topology v.front) }
 {
     let core = out(shared, place);
     let mut book = Book::of(shared.case, core);
     let front = book.history().len() as u64;
     let result = book.write_in(alloc, lease, front, name, row, proposal);
+    let floor_after = book.floor();
     let (_case, core) = book.into_core();
     match result {
         Ok(commit) => {
             append(shared, place, core);
-            Ok(commit)
+            (Ok(commit), floor_after)
         }
         Err(why) => {
             back(shared, place, core, why == WriteRefusal::KeeperFault);
-            Err(why)
+            (Err(why), floor_after)
         }
     }
 }
@@ -85,6 +90,7 @@ pub(crate) fn back<K: Keeper>(
     ensures basis { place.new.me.0.basis ≡ place.old.me.0.basis }
     ensures live { place.new.me.0.live ≡ true }
     ensures numbers { place.new.me.0.numbers ≡ place.old.me.0.numbers }
+    ensures front { place.new.me.0.front ≡ place.old.me.0.front }
 {
     if failed {
         fault(shared, place, core);

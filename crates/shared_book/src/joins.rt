@@ -76,6 +76,7 @@ impl<'a, K: Keeper> Shared<'a, K> {
             marks,
             claims,
             inputs,
+            settled: _,
         } = other;
         let mut theirs = place;
         look(self, &mut theirs);
@@ -83,6 +84,8 @@ impl<'a, K: Keeper> Shared<'a, K> {
             .shared
             .join_seat::<Joined>(&mut seat.place, theirs);
         look(self, &mut seat.place);
+        // Each seat settled its leases by the marks that it alone had loaded.
+        seat.settled = false;
         seat.marks = greater_of(&seat.marks, &marks);
         seat.inputs = newer_of(&seat.claims, &claims, &seat.inputs, &inputs);
         seat.claims = newer_of(&seat.claims, &claims, &seat.claims, &claims);

@@ -1,5 +1,5 @@
 //! Marks and the floor, which a seat reads and raises without the turn.
-ghost use Rattle.std.specs.Prelude.{◌≡◌, ◌<◌, ◌≤◌, min};
+ghost use Rattle.std.specs.Prelude.{◌≡◌, ◌<◌, ◌≤◌, min, slice_set, true};
 ghost use Rattle.watermark.specs.Marks.{mark_of};
 ghost use Rattle.shared_book.specs.Lists.{IsIn};
 ghost use Rattle.shared_book.specs.MarkSteps.{IsOwnSettled};
@@ -26,7 +26,7 @@ impl<'a, K: Keeper> Shared<'a, K> {
         ensures number { seat.new.number ≡ seat.old.number }
     {
         let mark = load_mark(self, &mut seat.place, interval);
-        seat.marks[interval as usize] = mark;
+        seat.settled = keep_mark(&mut seat.marks, interval, mark, seat.settled);
         mark
     }
 
@@ -61,9 +61,21 @@ impl<'a, K: Keeper> Shared<'a, K> {
     {
         let input = settled_input(seat, lease);
         let mark = raise_mark(self, &mut seat.place, lease, own.min(input));
-        seat.marks[lease.interval() as usize] = mark;
+        seat.settled = keep_mark(&mut seat.marks, lease.interval(), mark, seat.settled);
         mark
     }
+}
+
+// Keeps a mark as it was loaded. What was settled stays settled where the mark is what it was.
+fn keep_mark(marks: &mut [u64; 61], interval: u32, mark: u64, settled: bool) -> bool
+    requires there { interval < 61 }
+    ensures marks { marks.new ≡ slice_set marks.old interval mark }
+    ensures same { result ≡ true → marks.new ≡ marks.old }
+    ensures settled { result ≡ true → settled ≡ true }
+{
+    let same = marks[interval as usize] == mark;
+    marks[interval as usize] = mark;
+    settled && same
 }
 
 // The mark to which what feeds a lease's interval allowed to raise it: 0 where the seat has a newer

@@ -91,6 +91,7 @@ impl<'a, K: Keeper> Shared<'a, K> {
             marks: [0; 61],
             claims: [0; 61],
             inputs: [0; 61],
+            settled: false,
         }
     }
 }
@@ -137,6 +138,7 @@ fn opened<'a, K: Keeper>(
                 marks: [0; 61],
                 claims: [0; 61],
                 inputs: [0; 61],
+                settled: false,
             };
             Ok((shared, seat))
         }

@@ -2,6 +2,7 @@
 ghost use Rattle.std.specs.Prelude.{◌≡◌, ◌<◌, ◌∷◌, [], true};
 ghost use Rattle.shared_book.specs.Joins.{first_of, note_of};
 ghost use Rattle.shared_book.specs.Places.{AreThere, HasAllPlaces, claims_of, inputs_of};
+ghost use Rattle.shared_book.specs.Settling.{AreSettled};
 
 use crate::views::View;
 use atomic_table::Seat as Place;
@@ -19,6 +20,9 @@ pub struct Seat<K: Keeper> {
     // Of each interval 1 more than the sequencer of the newest lease of it, and its input mark.
     pub(crate) claims: [u64; 61],
     pub(crate) inputs: [u64; 61],
+    // Whether a release has nothing to settle: since the last one no mark that is loaded changed, and
+    // nothing was claimed.
+    pub(crate) settled: bool,
     ghost numbered: { first_of place.me.0.numbers ≡ number ∷ [] },
     ghost small: { number < 64 },
     ghost live: { place.me.0.live ≡ true },
@@ -27,6 +31,8 @@ pub struct Seat<K: Keeper> {
     ghost fed: { inputs ≡ inputs_of place.me.0 },
     ghost long: { HasAllPlaces place.me.0 },
     ghost there: { AreThere place.me.0.basis.case.topology place.me.0.leases },
+    ghost current: { settled ≡ true → AreSettled place.me.0.basis.case.topology place.me.0.front
+        marks claims inputs },
 }
 
 /// What a seat had seen of the history when it was made. It has no number, no turn, no lease and no

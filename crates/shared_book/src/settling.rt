@@ -1,5 +1,5 @@
 //! What a release settles of a seat's leases.
-ghost use Rattle.std.specs.Prelude.{◌≡◌, ◌==◌, ◌<◌, ℕ, false, length, suc};
+ghost use Rattle.std.specs.Prelude.{◌≡◌, ◌==◌, ◌<◌, ℕ, false, length, suc, true};
 ghost use Rattle.std.specs.Option.{option_map_or};
 ghost use Rattle.run_history.specs.Cases.{intervals_of};
 ghost use Rattle.run_history.specs.Fences.{last_claim};
@@ -8,7 +8,7 @@ ghost use Rattle.run_history.specs.Runs.{run_of};
 ghost use Rattle.run_history.specs.Watermarks.{least};
 ghost use Rattle.watermark.specs.Marks.{feeding_marks};
 ghost use Rattle.shared_book.specs.Places.{claims_of, inputs_of};
-ghost use Rattle.shared_book.specs.Settling.{AreSettledTo, IsFed, input_after, least_of};
+ghost use Rattle.shared_book.specs.Settling.{AreSettled, AreSettledTo, IsFed, input_after, least_of};
 ghost use Rattle.shared_book.specs.Steps.{idle};
 ghost use Rattle.shared_book.specs.Turns.{HasTurn, IsHere};
 
@@ -21,33 +21,61 @@ use history_laws::case_is_runnable;
 use row_keeper::Keeper;
 use watermark::inputs;
 
-// The floor of the history, and the input marks that a release of the turn settles.
-pub(crate) fn settled_in<K: Keeper>(
+// The floor of the history.
+pub(crate) fn floor_in<K: Keeper>(
     shared: &Shared<'_, K>,
     place: &mut Place<Option<Core<K>>, View>,
-    marks: &[u64; 61],
-    claims: &[u64; 61],
-    inputs: &[u64; 61],
-) -> (u64, [u64; 61])
+) -> u64
     requires here { IsHere shared.now.table.shared.table_id shared.now.case.now place.old }
     requires turn { HasTurn place.old.me }
-    requires loaded { marks.now ≡ place.old.me.0.marks }
-    requires claimed { claims.now ≡ claims_of place.old.me.0 }
-    requires fed { inputs.now ≡ inputs_of place.old.me.0 }
     ensures here { IsHere shared.now.table.shared.table_id shared.now.case.now place.new }
     ensures turn { HasTurn place.new.me }
     ensures view { place.new.me.0 ≡ place.old.me.0 }
     ensures floor { let v = place.old.me.0 in
-        result.0 ≡ floor_of (run_of v.basis.case.topology v.front) }
-    ensures inputs { result.1 ≡ inputs_of (idle place.old.me.0) }
+        result ≡ floor_of (run_of v.basis.case.topology v.front) }
 {
     let core = out(shared, place);
     let book = Book::of(shared.case, core);
     let floor = book.floor();
-    let settled = settle(&book, marks, claims, inputs);
     let (_case, core) = book.into_core();
     home(shared, place, core);
-    (floor, settled)
+    floor
+}
+
+// The input marks become those that a release of the turn settles. Where they are settled, nothing is
+// asked.
+pub(crate) fn settle_leases<K: Keeper>(
+    shared: &Shared<'_, K>,
+    place: &mut Place<Option<Core<K>>, View>,
+    settled: bool,
+    marks: &[u64; 61],
+    claims: &[u64; 61],
+    inputs: &mut [u64; 61],
+)
+    requires here { IsHere shared.now.table.shared.table_id shared.now.case.now place.old }
+    requires turn { HasTurn place.old.me }
+    requires loaded { marks.now ≡ place.old.me.0.marks }
+    requires claimed { claims.now ≡ claims_of place.old.me.0 }
+    requires fed { inputs.old ≡ inputs_of place.old.me.0 }
+    requires current { let v = place.old.me.0 in settled ≡ true →
+        AreSettled v.basis.case.topology v.front marks.now claims.now inputs.old }
+
+    ensures here { IsHere shared.now.table.shared.table_id shared.now.case.now place.new }
+    ensures turn { HasTurn place.new.me }
+    ensures view { place.new.me.0 ≡ place.old.me.0 }
+    ensures inputs { inputs.new ≡ inputs_of (idle place.old.me.0) }
+    ensures settled { let v = place.old.me.0 in
+        AreSettled v.basis.case.topology v.front marks.now claims.now inputs.new }
+{
+    if settled {
+        return;
+    }
+    let core = out(shared, place);
+    let book = Book::of(shared.case, core);
+    let least = settle(&book, marks, claims, inputs);
+    let (_case, core) = book.into_core();
+    home(shared, place, core);
+    *inputs = least;
 }
 
 // Of each interval whose last claim is the seat's, the input mark is the least of the marks that feed

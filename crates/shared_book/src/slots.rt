@@ -14,7 +14,8 @@ use atomic_table::Seat as Place;
 use book::Core;
 use row_keeper::Keeper;
 
-// One try for the turn. What the word was is answered: 0 where the seat has the turn now.
+// One try for the turn. What the word was is answered: 0 where the seat has the turn now. The seat looks
+// first: each of its claims is in what it has seen, so none comes to be the last by what others appended.
 pub(crate) fn take<K: Keeper>(shared: &Shared<'_, K>, seat: &mut Seat<K>) -> u64
     requires here { IsHere shared.now.table.shared.table_id shared.now.case.now seat.old.place }
     requires idle { IsIdle seat.old.place.me }
@@ -24,6 +25,7 @@ pub(crate) fn take<K: Keeper>(shared: &Shared<'_, K>, seat: &mut Seat<K>) -> u64
     ensures busy { (result ≢ 0) →
         seat.new.place.me ≡ (missing seat.old.place.me.0 result, seat.old.place.me.1) }
 {
+    look(shared, &mut seat.place);
     shared
         .table
         .shared

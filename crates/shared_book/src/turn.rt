@@ -15,10 +15,11 @@ ghost use Rattle.shared_book.specs.Guards.{RestsTurn};
 ghost use Rattle.shared_book.specs.MarkSteps.{released};
 ghost use Rattle.shared_book.specs.Turns.{HasClaimedIn, HasFaulted, HasStoredIn, HasTaken, HasTurn, HasWrittenIn, IsHere, IsIdle, IsProposedIn, IsRowHeld, MayWrite};
 
+use crate::finishing::give_at;
 use crate::seats::Seat;
 use crate::shared::Shared;
 use crate::slots::take;
-use crate::turn_calls::{claim_at, give_at, purge_at, settle_at, unfinished_at, write_at};
+use crate::turn_calls::{claim_at, purge_at, settle_at, unfinished_at, write_at};
 use book::{ClaimRefusal, Claimed, Lease, Proposal, WriteRefusal, Written};
 use mw_types::{RecordId, RowName};
 use row_keeper::Keeper;

@@ -10,16 +10,13 @@ ghost use Rattle.book.specs.Conditions.{MayForget, MaySettle};
 ghost use Rattle.book.specs.Proposals.{IsProposable};
 ghost use Rattle.book.specs.declared.refusals.ClaimRefusal.TheVariants as claims;
 ghost use Rattle.book.specs.declared.refusals.WriteRefusal.TheVariants as refusals;
-ghost use Rattle.shared_book.specs.MarkSteps.{released};
 ghost use Rattle.shared_book.specs.Turns.{HasClaimedIn, HasFaulted, HasStoredIn, HasTurn, HasWrittenIn, IsHere, IsProposedIn, IsRowHeld, MayWrite};
 
 use crate::claiming::{claim_in, unfinished_in};
 use crate::in_turn::back;
-use crate::mark_words::raise_floor;
 use crate::seats::Seat;
-use crate::settling::settled_in;
 use crate::shared::Shared;
-use crate::slots::{append, give, out};
+use crate::slots::{append, out};
 use book::{Book, ClaimRefusal, Claimed, Lease, Proposal, WriteRefusal, Written};
 use history_laws::case_is_runnable;
 use mw_types::{RecordId, RowName};
@@ -59,6 +56,7 @@ pub(crate) fn claim_at<K: Keeper>(
         Ok(claimed) => {
             seat.claims[interval as usize] = claimed.lease.seq() + 1;
             seat.inputs[interval as usize] = 0;
+            seat.settled = false;
             Ok(claimed)
         }
         Err(why) => Err(why),
@@ -235,26 +233,4 @@ pub(crate) fn unfinished_at<K: Keeper>(shared: &Shared<'_, K>, seat: &mut Seat<K
         (λ _. result ≡ unfinished v.basis.case (run_of v.basis.case.topology v.front)) }
 {
     unfinished_in(shared, &mut seat.place)
-}
-
-// The floor is raised to that of the history, and the turn is given back: each lease that is the last of
-// its interval is settled.
-pub(crate) fn give_at<K: Keeper>(shared: &Shared<'_, K>, seat: &mut Seat<K>)
-    requires here { IsHere shared.now.table.shared.table_id shared.now.case.now seat.old.place }
-    requires turn { HasTurn seat.old.place.me }
-    ensures table { seat.new.place.table_id ≡ seat.old.place.table_id }
-    ensures here { IsHere shared.now.table.shared.table_id shared.now.case.now seat.new.place }
-    ensures view { seat.new.place.me ≡ (released seat.old.place.me.0, []) }
-    ensures number { seat.new.number ≡ seat.old.number }
-{
-    let (floor, inputs) = settled_in(
-        shared,
-        &mut seat.place,
-        &seat.marks,
-        &seat.claims,
-        &seat.inputs,
-    );
-    raise_floor(shared, &mut seat.place, floor);
-    give(shared, &mut seat.place);
-    seat.inputs = inputs;
 }

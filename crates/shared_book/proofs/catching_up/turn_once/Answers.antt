@@ -10,14 +10,14 @@ pub returns-clause-caught : goal.returns-clause-caught
 returns-clause-caught g c = (
   c.take-found.new.seat.place.me.0,
   c.take-found.ensures.taken c.if-found-ne0.false,
-  ap (λ (m : SeatView). m.0) c.finish.ensures.view,
+  ap (λ (m : SeatView). m.0) c.give_at.ensures.view,
 )
 
 pub returns-clause-looked : goal.returns-clause-looked
 returns-clause-looked g c =
     let v = c.args.seat.now.place.me.0 in
     let t = c.take-found.new.seat.place.me in
-    let f = c.finish in
+    let f = c.give_at in
     given (λ u. HasLooked (shared_view v) (shared_view u)) t f.new.seat.place.me f.ensures.view
     (looked-refused v t.0 t.0 (c.take-found.ensures.taken c.if-found-ne0.false) refl (refused-same t.0 t.0 refl))
 
@@ -25,7 +25,7 @@ pub returns-clause-marks : goal.returns-clause-marks
 returns-clause-marks g c =
     let v = c.args.seat.now.place.me.0 in
     let t = c.take-found.new.seat.place.me in
-    let f = c.finish in
+    let f = c.give_at in
     given (λ u. KeepsMarks (shared_view v) (shared_view u)) t f.new.seat.place.me f.ensures.view
     (marks-refused v t.0 t.0 (c.take-found.ensures.taken c.if-found-ne0.false) refl (refused-same t.0 t.0 refl))
 

@@ -13,7 +13,7 @@ returns-in-Ok-clause-claimed g c =
     let t = c.take-found.new.seat.place.me.0 in
     let r = c.claim_at-result in
     let w = r.new.seat.place.me in
-    let f = c.finish in
+    let f = c.give_at in
     given (λ u. HasClaimed (shared_view v) (shared_view u) c.args.worker c.args.interval c.in-Ok.claimed)
     w f.new.seat.place.me f.ensures.view
     (claimed v t w.0 (c.take-found.ensures.taken c.if-found-ne0.false) r.ensures.basis
@@ -25,7 +25,7 @@ returns-in-Err-clause-looked g c =
     let t = c.take-found.new.seat.place.me.0 in
     let r = c.claim_at-result in
     let w = r.new.seat.place.me in
-    let f = c.finish in
+    let f = c.give_at in
     given (λ u. HasLooked (shared_view v) (shared_view u)) w f.new.seat.place.me f.ensures.view
     (looked-refused v t w.0 (c.take-found.ensures.taken c.if-found-ne0.false) r.ensures.basis
     (refused-claim t w.0 c.in-Err.why c.in-Err.ensures.fault c.in-Err.ensures.unchanged))
@@ -43,7 +43,7 @@ returns-in-Ok-clause-marks g c =
     let t = c.take-found.new.seat.place.me.0 in
     let r = c.claim_at-result in
     let w = r.new.seat.place.me in
-    let f = c.finish in
+    let f = c.give_at in
     given (λ u. KeepsMarks (shared_view v) (shared_view u)) w f.new.seat.place.me f.ensures.view
     (marks-grown v t w.0 (c.take-found.ensures.taken c.if-found-ne0.false) r.ensures.basis (c.in-Ok.ensures.claimed.view ∙ ap (grown t) (sym (ap (λ (x : View). x.front) c.in-Ok.ensures.claimed.view))))
 
@@ -53,7 +53,7 @@ returns-in-Err-clause-marks g c =
     let t = c.take-found.new.seat.place.me.0 in
     let r = c.claim_at-result in
     let w = r.new.seat.place.me in
-    let f = c.finish in
+    let f = c.give_at in
     given (λ u. KeepsMarks (shared_view v) (shared_view u)) w f.new.seat.place.me f.ensures.view
     (marks-refused v t w.0 (c.take-found.ensures.taken c.if-found-ne0.false) r.ensures.basis (refused-claim t w.0 c.in-Err.why c.in-Err.ensures.fault c.in-Err.ensures.unchanged))
 

@@ -7,7 +7,8 @@ use Rattle.book.specs.DeskReasons.{HasReason, of_write}
 use Rattle.book.specs.Desks.{HasLooked, KeepsMarks}
 use Rattle.shared_book.specs.Joins.{first_of}
 use Rattle.shared_book.specs.SharedDesks.{shared_view}
-use Rattle.shared_book.proofs.DeskSteps.{marks-busy, marks-grown, marks-refused, busy-looked, given, looked-refused, reason-write, refused-write, stored}
+use Rattle.shared_book.specs.Turns.{HasStoredIn}
+use Rattle.shared_book.proofs.DeskSteps.{accepted, marks-busy, marks-grown, marks-refused, busy-looked, given, looked-refused, reason-write, refused-write, stored}
 use Rattle.shared_book.proofs.SeatCalls.{arrays-store}
 use Rattle.shared_book.proofs.Taking.{core-taken, forget-taken, row-taken, write-taken}
 use Rattle.shared_book.proofs.desk_writes.purge_once.Goals as goal
@@ -40,12 +41,15 @@ returns-in-Ok-clause-written g c =
     let t = c.take-found.new.seat.place.me.0 in
     let r = c.purge_in-result in
     let w = r.new.place.me in
+    let written = accepted (λ commit. HasStoredIn t w.0 c.args.lease.now c.args.name.now
+    (Purge c.args.lease.now.seq c.args.name.now c.args.floor) c.args.row.now (answer_of commit r.new.row))
+    r.result.0 c.in-Ok.commit c.in-Ok.is r.ensures.written in
     let f = c.finish in
     given (λ u. HasStored (shared_view v) (shared_view u) c.args.lease.now c.args.name.now (Purge c.args.lease.now.seq c.args.name.now c.args.floor) c.args.row.now
     (λ commit. written_row commit (Purge c.args.lease.now.seq c.args.name.now c.args.floor) [] c.args.row.now) (answer_of c.in-Ok.commit r.new.row))
     w f.new.seat.place.me f.ensures.view
     (stored v t w.0 (c.take-found.ensures.taken c.if-found-ne0.false) r.ensures.basis
-    c.args.lease.now c.args.name.now (Purge c.args.lease.now.seq c.args.name.now c.args.floor) c.args.row.now (answer_of c.in-Ok.commit r.new.row) c.in-Ok.ensures.written)
+    c.args.lease.now c.args.name.now (Purge c.args.lease.now.seq c.args.name.now c.args.floor) c.args.row.now (answer_of c.in-Ok.commit r.new.row) written)
 
 pub returns-in-Err-clause-looked : goal.returns-in-Err-clause-looked
 returns-in-Err-clause-looked g c =
@@ -56,7 +60,7 @@ returns-in-Err-clause-looked g c =
     let f = c.finish in
     given (λ u. HasLooked (shared_view v) (shared_view u)) w f.new.seat.place.me f.ensures.view
     (looked-refused v t w.0 (c.take-found.ensures.taken c.if-found-ne0.false) r.ensures.basis
-    (refused-write t w.0 c.in-Err.why c.in-Err.ensures.fault c.in-Err.ensures.unchanged))
+    (refused-write t w.0 r.result.0 c.in-Err.why c.in-Err.is r.ensures.fault r.ensures.unchanged))
 
 pub returns-in-Err-clause-reason : goal.returns-in-Err-clause-reason
 returns-in-Err-clause-reason g c =
@@ -66,12 +70,12 @@ returns-in-Err-clause-reason g c =
     let w = r.new.place.me in
     let f = c.finish in
     let why = c.in-Err.why in
-    let refused = refused-write t w.0 why c.in-Err.ensures.fault c.in-Err.ensures.unchanged in
+    let refused = refused-write t w.0 r.result.0 why c.in-Err.is r.ensures.fault r.ensures.unchanged in
     subst (HasReason (shared_view v) (shared_view f.new.seat.place.me.0) c.args.lease.now) (sym c.of_write.ensures)
     (given (λ u. HasReason (shared_view v) (shared_view u) c.args.lease.now (of_write why))
     w f.new.seat.place.me f.ensures.view
     (reason-write v t w.0 (c.take-found.ensures.taken c.if-found-ne0.false) r.ensures.basis
-    c.args.lease.now why refused c.in-Err.ensures.fault c.in-Err.ensures.stale c.in-Err.ensures.full))
+    c.args.lease.now r.result.0 why c.in-Err.is refused r.ensures.fault r.ensures.stale r.ensures.full))
 
 -- another had the turn, and no more was seen
 pub returns-then-found-ne0-clause-looked : goal.returns-then-found-ne0-clause-looked
@@ -86,9 +90,12 @@ returns-in-Ok-clause-marks g c =
     let t = c.take-found.new.seat.place.me.0 in
     let r = c.purge_in-result in
     let w = r.new.place.me in
+    let written = accepted (λ commit. HasStoredIn t w.0 c.args.lease.now c.args.name.now
+    (Purge c.args.lease.now.seq c.args.name.now c.args.floor) c.args.row.now (answer_of commit r.new.row))
+    r.result.0 c.in-Ok.commit c.in-Ok.is r.ensures.written in
     let f = c.finish in
     given (λ u. KeepsMarks (shared_view v) (shared_view u)) w f.new.seat.place.me f.ensures.view
-    (marks-grown v t w.0 (c.take-found.ensures.taken c.if-found-ne0.false) r.ensures.basis c.in-Ok.ensures.written.view)
+    (marks-grown v t w.0 (c.take-found.ensures.taken c.if-found-ne0.false) r.ensures.basis written.view)
 
 pub returns-in-Err-clause-marks : goal.returns-in-Err-clause-marks
 returns-in-Err-clause-marks g c =
@@ -98,7 +105,7 @@ returns-in-Err-clause-marks g c =
     let w = r.new.place.me in
     let f = c.finish in
     given (λ u. KeepsMarks (shared_view v) (shared_view u)) w f.new.seat.place.me f.ensures.view
-    (marks-refused v t w.0 (c.take-found.ensures.taken c.if-found-ne0.false) r.ensures.basis (refused-write t w.0 c.in-Err.why c.in-Err.ensures.fault c.in-Err.ensures.unchanged))
+    (marks-refused v t w.0 (c.take-found.ensures.taken c.if-found-ne0.false) r.ensures.basis (refused-write t w.0 r.result.0 c.in-Err.why c.in-Err.is r.ensures.fault r.ensures.unchanged))
 
 pub returns-then-found-ne0-clause-marks : goal.returns-then-found-ne0-clause-marks
 returns-then-found-ne0-clause-marks g c =
@@ -109,9 +116,9 @@ invariant_of-seat g c =
     let p = c.take-found.new.seat in
     let v = p.place.me.0 in
     let r = c.purge_in-result in
-    let has = arrays-store v r.new.place.me.0 p.marks p.claims p.inputs c.args.lease.now c.args.name.now
-    (Purge c.args.lease.now.seq c.args.name.now c.args.floor) c.args.row.now r.new.row r.result refl r.ensures.written r.ensures.fault r.ensures.unchanged
-    (record { loaded = p.loaded; claimed = p.claimed; fed = p.fed; long = p.long; there = p.there }) in
+    let has = arrays-store v r.new.place.me.0 p.settled p.marks p.claims p.inputs c.args.lease.now c.args.name.now
+    (Purge c.args.lease.now.seq c.args.name.now c.args.floor) c.args.row.now r.new.row r.result.0 refl r.ensures.written r.ensures.fault r.ensures.unchanged
+    (record { loaded = p.loaded; claimed = p.claimed; fed = p.fed; long = p.long; there = p.there; current = p.current }) in
     record {
       numbered = ap first_of r.ensures.numbers ∙ p.numbered;
       small = p.small;
@@ -121,4 +128,5 @@ invariant_of-seat g c =
       fed = has.fed;
       long = has.long;
       there = has.there;
+      current = has.current;
     }

@@ -73,8 +73,8 @@ invariant_of-seat g c =
     let v = s.place.me.0 in
     let w = c.args.note.place.me.0 in
     let is = ap (λ (m : SeatView). m.0) (c.look-2.ensures.same ∙ c.join_seat.ensures.2) ∙ ap (λ (m : SeatView). joined m.0 w) c.look.ensures.same in
-    let has = arrays-met v w c.look-2.new.place.me.0 s.marks s.claims s.inputs c.args.note.bare is
-    (record { loaded = s.loaded; claimed = s.claimed; fed = s.fed; long = s.long; there = s.there }) in
+    let has = arrays-met v w c.look-2.new.place.me.0 s.settled s.marks s.claims s.inputs c.args.note.bare is (c.look.ensures.settled c.requires.idle.turn)
+    (record { loaded = s.loaded; claimed = s.claimed; fed = s.fed; long = s.long; there = s.there; current = s.current }) in
     record {
       numbered = ap (λ (u : View). first_of u.numbers) is ∙ ap first_of (met_numbers v w c.args.note.bare) ∙ s.numbered;
       small = s.small;
@@ -84,4 +84,5 @@ invariant_of-seat g c =
       fed = has.fed;
       long = has.long;
       there = has.there;
+      current = has.current;
     }

@@ -1,4 +1,4 @@
-use Rattle.std.proofs.Common.{arith, ap, length, subst, sym, ◌∙◌}
+use Rattle.std.proofs.Common.{arith, ap, length, subst, sym, true≢false, ◌∙◌}
 use Rattle.shared_book.specs.Joins.{first_of}
 use Rattle.shared_book.specs.Places.{AreThere, claims_of, inputs_of}
 use Rattle.shared_book.specs.Steps.{SeatView}
@@ -17,4 +17,5 @@ invariant_of-seat g c =
       fed = sym (ap (λ (m : SeatView). inputs_of m.0) view);
       long = record { marks = ap (λ (m : SeatView). length m.0.marks) view; settled = ap (λ (m : SeatView). length m.0.settled) view };
       there = subst (λ (m : SeatView). AreThere m.0.basis.case.topology m.0.leases) (sym view) (λ lease held. absurd held);
+      current = λ is. absurd (true≢false (sym is));
     }

@@ -14,9 +14,9 @@ invariant_of-seat g c =
     let all = length-intervals c.args.shared.now.case.now.topology in
     let same = ap (λ (k : CaseShape). length (intervals_of k.topology)) c.requires.here.case in
     let seq = c.seq.ensures in
-    let has = arrays-claim p.place.me.0 r.new.place.me.0 p.marks p.claims p.inputs c.args.worker c.args.interval c.in-Ok.claimed
+    let has = arrays-claim p.place.me.0 r.new.place.me.0 p.settled p.marks p.claims p.inputs c.args.worker c.args.interval c.in-Ok.claimed
     c.in-Ok.ensures.claimed (omega (arith, below, few)) (omega (arith, below, all, same)) (c.seq.result + 1) (omega (arith, seq))
-    (record { loaded = p.loaded; claimed = p.claimed; fed = p.fed; long = p.long; there = p.there }) in
+    (record { loaded = p.loaded; claimed = p.claimed; fed = p.fed; long = p.long; there = p.there; current = p.current }) in
     record {
       numbered = ap first_of r.ensures.numbers ∙ p.numbered;
       small = p.small;
@@ -26,15 +26,16 @@ invariant_of-seat g c =
       fed = has.fed;
       long = has.long;
       there = has.there;
+      current = has.current;
     }
 
 pub invariant_of-seat-in-Err-1 : goal.invariant_of-seat-in-Err-1
 invariant_of-seat-in-Err-1 g c =
     let p = c.args.seat.now in
     let r = c.claim_in in
-    let has = arrays-unclaimed p.place.me.0 r.new.place.me.0 p.marks p.claims p.inputs c.in-Err.why
+    let has = arrays-unclaimed p.place.me.0 r.new.place.me.0 p.settled p.marks p.claims p.inputs c.in-Err.why
     c.in-Err.ensures.fault c.in-Err.ensures.unchanged
-    (record { loaded = p.loaded; claimed = p.claimed; fed = p.fed; long = p.long; there = p.there }) in
+    (record { loaded = p.loaded; claimed = p.claimed; fed = p.fed; long = p.long; there = p.there; current = p.current }) in
     record {
       numbered = ap first_of r.ensures.numbers ∙ p.numbered;
       small = p.small;
@@ -44,4 +45,5 @@ invariant_of-seat-in-Err-1 g c =
       fed = has.fed;
       long = has.long;
       there = has.there;
+      current = has.current;
     }

@@ -75,13 +75,13 @@ invariant_of-seat g c =
     let k = c.in-Ok.ensures in
     let entry = Purge c.args.lease.now.seq c.args.name.now c.args.floor in
     let is = in_after p.place.me o.new.place.me c.append.new.place.me i.result.1 o.ensures.view c.append.ensures.view in
-    let has = arrays-stored v c.append.new.place.me.0 p.marks p.claims p.inputs c.args.lease.now c.args.name.now entry c.args.row.now c.in-Ok.written refl
+    let has = arrays-stored v c.append.new.place.me.0 p.settled p.marks p.claims p.inputs c.args.lease.now c.args.name.now entry c.args.row.now c.in-Ok.written refl
     (stored_in v o.result b.result c.args.shared.now.case.now o.ensures.core b.ensures.core b.ensures.case c.requires.here.case
     c.purge-result.new.self i.result.1 i.result.0.now c.requires.turn.claimed k.same k.keeper_fault.later i.ensures.core
     i.ensures.case i.ensures.lawful c.append.new.place.me.0 c.args.lease.now c.args.name.now entry c.args.row.now
     c.in-Ok.written (in_after c.args.seat.now.place.me o.new.place.me c.append.new.place.me i.result.1 o.ensures.view c.append.ensures.view)
     k.found k.written)
-    (record { loaded = p.loaded; claimed = p.claimed; fed = p.fed; long = p.long; there = p.there }) in
+    (record { loaded = p.loaded; claimed = p.claimed; fed = p.fed; long = p.long; there = p.there; current = p.current }) in
     record {
       numbered = ap first_of (ap (λ (u : View). u.numbers) is) ∙ p.numbered;
       small = p.small;
@@ -91,6 +91,7 @@ invariant_of-seat g c =
       fed = has.fed;
       long = has.long;
       there = has.there;
+      current = has.current;
     }
 
 pub invariant_of-seat-in-Err : goal.invariant_of-seat-in-Err
@@ -99,8 +100,8 @@ invariant_of-seat-in-Err g c =
     let o = c.out-core in
     let b = c.back in
     let is = ap (λ (m : SeatView). m.0) o.ensures.view in
-    let has = arrays-back p.place.me.0 o.new.place.me.0 b.new.place.me.0 p.marks p.claims p.inputs c.eq.result is b.ensures.same b.ensures.fault
-    (record { loaded = p.loaded; claimed = p.claimed; fed = p.fed; long = p.long; there = p.there }) in
+    let has = arrays-back p.place.me.0 o.new.place.me.0 b.new.place.me.0 p.settled p.marks p.claims p.inputs c.eq.result is b.ensures.same b.ensures.fault
+    (record { loaded = p.loaded; claimed = p.claimed; fed = p.fed; long = p.long; there = p.there; current = p.current }) in
     record {
       numbered = ap first_of (b.ensures.numbers ∙ ap (λ (u : View). u.numbers) is) ∙ p.numbered;
       small = p.small;
@@ -110,4 +111,5 @@ invariant_of-seat-in-Err g c =
       fed = has.fed;
       long = has.long;
       there = has.there;
+      current = has.current;
     }

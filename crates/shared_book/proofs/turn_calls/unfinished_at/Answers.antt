@@ -8,8 +8,8 @@ pub invariant_of-seat : goal.invariant_of-seat
 invariant_of-seat g c =
     let p = c.args.seat.now in
     let r = c.unfinished_in in
-    let has = arrays-is p.place.me.0 r.new.place.me.0 p.marks p.claims p.inputs r.ensures.view
-    (record { loaded = p.loaded; claimed = p.claimed; fed = p.fed; long = p.long; there = p.there }) in
+    let has = arrays-is p.place.me.0 r.new.place.me.0 p.settled p.marks p.claims p.inputs r.ensures.view
+    (record { loaded = p.loaded; claimed = p.claimed; fed = p.fed; long = p.long; there = p.there; current = p.current }) in
     record {
       numbered = ap (λ (v : View). first_of v.numbers) r.ensures.view ∙ p.numbered;
       small = p.small;
@@ -19,4 +19,5 @@ invariant_of-seat g c =
       fed = has.fed;
       long = has.long;
       there = has.there;
+      current = has.current;
     }

@@ -26,9 +26,9 @@ invariant_of-seat g c =
     let p = c.args.seat.now in
     let e = ap (λ (m : SeatView). m.0) c.split_seat-place.ensures.2 in
     let few = c.requires.few in
-    let has = arrays-same p.place.me.0 c.split_seat-place.new.seat.me.0 p.marks p.claims p.inputs (ap (λ (v : View). v.basis) e)
-    (ap (λ (v : View). v.marks) e) (ap (λ (v : View). v.settled) e) (ap (λ (v : View). v.leases) e)
-    (record { loaded = p.loaded; claimed = p.claimed; fed = p.fed; long = p.long; there = p.there }) in
+    let has = arrays-same p.place.me.0 c.split_seat-place.new.seat.me.0 p.settled p.marks p.claims p.inputs (ap (λ (v : View). v.basis) e)
+    (ap (λ (v : View). v.marks) e) (ap (λ (v : View). v.settled) e) (ap (λ (v : View). v.leases) e) (ap (λ (v : View). v.front) e)
+    (record { loaded = p.loaded; claimed = p.claimed; fed = p.fed; long = p.long; there = p.there; current = p.current }) in
     record {
       numbered = ap (λ (v : View). first_of v.numbers) e ∙ c.requires.more;
       small = omega (arith, few);
@@ -38,4 +38,5 @@ invariant_of-seat g c =
       fed = has.fed;
       long = has.long;
       there = has.there;
+      current = has.current;
     }

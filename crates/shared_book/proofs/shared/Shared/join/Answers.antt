@@ -35,12 +35,12 @@ invariant_of-seat g c =
     let same = c.look.ensures.same in
     let w = c.look.new.place.me.0 in
     let e = ap (λ (m : SeatView). m.0) (c.look-2.ensures.same ∙ c.join_seat.ensures.2) in
-    let has = arrays-joined s.place.me.0 w c.look-2.new.place.me.0 s.marks s.claims s.inputs o.marks o.claims o.inputs
+    let has = arrays-joined s.place.me.0 w c.look-2.new.place.me.0 s.settled o.settled s.marks s.claims s.inputs o.marks o.claims o.inputs
     c.greater_of-seat.result c.newer_of-seat-2.result c.newer_of-seat.result e
     (ap (λ (m : SeatView). m.0.basis.case) same ∙ c.requires.other.case ∙ sym c.requires.here.case)
-    (record { loaded = s.loaded; claimed = s.claimed; fed = s.fed; long = s.long; there = s.there })
-    (subst (λ (m : SeatView). HasArrays m.0 o.marks o.claims o.inputs) (sym same)
-    (record { loaded = o.loaded; claimed = o.claimed; fed = o.fed; long = o.long; there = o.there }))
+    (record { loaded = s.loaded; claimed = s.claimed; fed = s.fed; long = s.long; there = s.there; current = s.current })
+    (subst (λ (m : SeatView). HasArrays m.0 o.settled o.marks o.claims o.inputs) (sym same)
+    (record { loaded = o.loaded; claimed = o.claimed; fed = o.fed; long = o.long; there = o.there; current = o.current }))
     c.greater_of-seat.ensures c.newer_of-seat-2.ensures c.newer_of-seat.ensures in
     record {
       numbered = ap (λ (v : View). first_of v.numbers) e ∙ joined_high s.number o.number s.place.me.0.numbers w.numbers s.numbered
@@ -53,6 +53,7 @@ invariant_of-seat g c =
       fed = has.fed;
       long = has.long;
       there = has.there;
+      current = has.current;
     }
 
 pub invariant_of-seat-else-number-seat : goal.invariant_of-seat-else-number-seat
@@ -62,12 +63,12 @@ invariant_of-seat-else-number-seat g c =
     let same = c.look.ensures.same in
     let w = c.look.new.place.me.0 in
     let e = ap (λ (m : SeatView). m.0) (c.look-2.ensures.same ∙ c.join_seat.ensures.2) in
-    let has = arrays-joined s.place.me.0 w c.look-2.new.place.me.0 s.marks s.claims s.inputs o.marks o.claims o.inputs
+    let has = arrays-joined s.place.me.0 w c.look-2.new.place.me.0 s.settled o.settled s.marks s.claims s.inputs o.marks o.claims o.inputs
     c.greater_of-seat.result c.newer_of-seat-2.result c.newer_of-seat.result e
     (ap (λ (m : SeatView). m.0.basis.case) same ∙ c.requires.other.case ∙ sym c.requires.here.case)
-    (record { loaded = s.loaded; claimed = s.claimed; fed = s.fed; long = s.long; there = s.there })
-    (subst (λ (m : SeatView). HasArrays m.0 o.marks o.claims o.inputs) (sym same)
-    (record { loaded = o.loaded; claimed = o.claimed; fed = o.fed; long = o.long; there = o.there }))
+    (record { loaded = s.loaded; claimed = s.claimed; fed = s.fed; long = s.long; there = s.there; current = s.current })
+    (subst (λ (m : SeatView). HasArrays m.0 o.settled o.marks o.claims o.inputs) (sym same)
+    (record { loaded = o.loaded; claimed = o.claimed; fed = o.fed; long = o.long; there = o.there; current = o.current }))
     c.greater_of-seat.ensures c.newer_of-seat-2.ensures c.newer_of-seat.ensures in
     record {
       numbered = ap (λ (v : View). first_of v.numbers) e ∙ joined_even s.number o.number s.place.me.0.numbers w.numbers s.numbered
@@ -80,6 +81,7 @@ invariant_of-seat-else-number-seat g c =
       fed = has.fed;
       long = has.long;
       there = has.there;
+      current = has.current;
     }
 
 -- what either had seen begins the longer of both, where the number of the other is the first

@@ -31,8 +31,8 @@ pub invariant_of-seat : goal.invariant_of-seat
 invariant_of-seat g c =
     let p = c.args.seat.now in
     let e = ap (λ (m : SeatView). m.0) c.split_seat.ensures.2 in
-    let has = arrays-is p.place.me.0 c.split_seat.new.seat.me.0 p.marks p.claims p.inputs e
-    (record { loaded = p.loaded; claimed = p.claimed; fed = p.fed; long = p.long; there = p.there }) in
+    let has = arrays-is p.place.me.0 c.split_seat.new.seat.me.0 p.settled p.marks p.claims p.inputs e
+    (record { loaded = p.loaded; claimed = p.claimed; fed = p.fed; long = p.long; there = p.there; current = p.current }) in
     record {
       numbered = ap (λ (v : View). first_of v.numbers) e ∙ p.numbered;
       small = p.small;
@@ -42,4 +42,5 @@ invariant_of-seat g c =
       fed = has.fed;
       long = has.long;
       there = has.there;
+      current = has.current;
     }

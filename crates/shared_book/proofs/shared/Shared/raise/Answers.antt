@@ -1,10 +1,10 @@
-use Rattle.std.proofs.Common.{◌∙◌, ap, sym, subst}
+use Rattle.std.proofs.Common.{◌∙◌, ap}
 use Rattle.std.specs.Prelude.{min, slice_set}
 use Rattle.shared_book.specs.declared.views.View.{View}
 use Rattle.shared_book.specs.Joins.{first_of}
 use Rattle.shared_book.specs.Steps.{SeatView}
 use Rattle.shared_book.proofs.Raising.{may-raise}
-use Rattle.shared_book.proofs.SeatArrays.{HasArrays, arrays-marked}
+use Rattle.shared_book.proofs.SeatArrays.{arrays-marked}
 use Rattle.shared_book.proofs.shared.Shared.raise.Goals as goal
 
 pub settled_input-input-requires : goal.settled_input-input-requires
@@ -23,9 +23,10 @@ invariant_of-seat g c =
     let p = c.args.seat.now in
     let r = c.raise_mark-mark in
     let e = ap (λ (m : SeatView). m.0) r.ensures.view in
-    let has = subst (λ i. HasArrays r.new.place.me.0 (slice_set p.marks i r.result) p.claims p.inputs) (sym c.interval.ensures)
-    (arrays-marked p.place.me.0 r.new.place.me.0 p.marks p.claims p.inputs c.args.lease.now.interval r.result e
-    (record { loaded = p.loaded; claimed = p.claimed; fed = p.fed; long = p.long; there = p.there })) in
+    let k = c.keep_mark-seat in
+    let has = arrays-marked p.place.me.0 r.new.place.me.0 p.settled k.result p.marks p.claims p.inputs c.args.lease.now.interval r.result
+    k.new.marks e (k.ensures.marks ∙ ap (λ i. slice_set p.marks i r.result) c.interval.ensures) k.ensures.same k.ensures.settled
+    (record { loaded = p.loaded; claimed = p.claimed; fed = p.fed; long = p.long; there = p.there; current = p.current }) in
     record {
       numbered = ap (λ (v : View). first_of v.numbers) e ∙ p.numbered;
       small = p.small;
@@ -35,4 +36,5 @@ invariant_of-seat g c =
       fed = has.fed;
       long = has.long;
       there = has.there;
+      current = has.current;
     }
