@@ -1,9 +1,12 @@
 //! Writing a row.
-ghost use Rattle.std.specs.Prelude.{◌≡◌, [], IfOk, OnOk};
-ghost use Rattle.row_parts.specs.Spelling.{spelling_of, IsSpelledRow};
+ghost use Rattle.std.specs.Prelude.{◌≡◌, ◌<◌, ◌+◌, ◌++◌, ◌^◌, [], All, IfOk, OnOk, length};
+ghost use Rattle.mw_types.specs.declared.timer.Timer.{Timer};
+ghost use Rattle.row_parts.specs.Contents.{IsRow};
+ghost use Rattle.row_parts.specs.Spelling.{DeliveryFits, FitsBytes, IsSpelledRow, spelling_of};
+ghost use Rattle.record_codec.specs.Edits.{deliveries_spelling, head_spelling, row_sending};
 
-use mw_types::{Bytes, NoMemory};
-use row_parts::{Row, Spelled, put_in_fours, put_list, put_state};
+use mw_types::{Bytes, Delivery, NoMemory};
+use row_parts::{Row, Spelled, put_in_fours, put_state};
 use std::alloc::Global;
 
 // The version of the form of rows, which is their first byte.
@@ -31,26 +34,60 @@ pub fn encode_over(buffer: Vec<u8>, row: &Row) -> Result<Bytes, NoMemory>
     ensures spelled { IfOk result (λ bytes. bytes ≡ spelling_of row.now) }
     ensures own { OnOk result (IsSpelledRow row.now) }
 {
+    row.sound();
+    encode_sending(buffer, row, row.last, row.pending.as_slice(), &[])
+}
+
+/// The bytes of a row with this last entry and the deliveries of both lists in the place of its own, in the
+/// memory of a buffer that is used no more.
+pub fn encode_sending(
+    buffer: Vec<u8>,
+    row: &Row,
+    last: u64,
+    front: &[Delivery],
+    behind: &[Delivery],
+) -> Result<Bytes, NoMemory>
+    requires { IsRow (row_sending last (front.now ++ behind.now) row.now) }
+    ensures spelled { let left = row_sending last (front.now ++ behind.now) row.now in
+        IfOk result (λ bytes. bytes ≡ spelling_of left) }
+    ensures own { OnOk result (IsSpelledRow (row_sending last (front.now ++ behind.now) row.now)) }
+{
     let mut out = buffer;
     out.clear();
-    put_row(&mut out, row)?;
+    out.reserve(room_of(row))?;
+    put_head(&mut out, row, last, front.len() + behind.len())?;
+    put_deliveries(&mut out, front)?;
+    put_deliveries(&mut out, behind)?;
+    put_in_fours(&mut out, row.seen.as_slice())?;
     Ok(Bytes::from_vec(out))
 }
 
-// Writes the bytes of a row where nothing is written.
-fn put_row(out: &mut Vec<u8>, row: &Row) -> Result<(), NoMemory>
-    requires { out.old.items ≡ [] }
-    ensures spelled { OnOk result (out.new.items ≡ spelling_of row.now) }
-    ensures own { OnOk result (IsSpelledRow row.now) }
+// Appends the bytes of a row before its deliveries, with this last entry and so many deliveries.
+fn put_head(out: &mut Vec<u8>, row: &Row, last: u64, count: usize) -> Result<(), NoMemory>
+    requires empty { out.old.items ≡ [] }
+    requires few { count < 2 ^ 32 }
+    ensures spelled { OnOk result (out.new.items ≡ head_spelling last count row.now) }
+    ensures state { OnOk result (FitsBytes row.now.state) }
+    ensures tags { OnOk result (All (λ (t : Timer). t.tag < 2 ^ 64) row.now.timers) }
 {
-    out.reserve(room_of(row))?;
     out.push(VERSION)?;
-    row.last.put(out)?;
+    last.put(out)?;
     row.floor.put(out)?;
     put_state(out, &row.state)?;
     put_in_fours(out, row.timers.as_slice())?;
-    put_list(out, row.pending.as_slice())?;
-    put_in_fours(out, row.seen.as_slice())?;
+    (count as u32).put(out)?;
+    Ok(())
+}
+
+// Appends the bytes of deliveries.
+fn put_deliveries(out: &mut Vec<u8>, deliveries: &[Delivery]) -> Result<(), NoMemory>
+    ensures spelled { let spelt = deliveries_spelling deliveries.now in
+        OnOk result (out.new.items ≡ out.old.items ++ spelt) }
+    ensures fit { OnOk result (All DeliveryFits deliveries.now) }
+{
+    for delivery in deliveries {
+        delivery.put(out)?;
+    }
     Ok(())
 }
 

@@ -1,7 +1,7 @@
 //! What every keeper of rows does.
-ghost use Rattle.std.specs.Prelude.{◌≡◌, ℕ, All, Option, map, slice_get, option_map, true, IfOk, IfSome, OnErr, OnOk};
+ghost use Rattle.std.specs.Prelude.{◌≡◌, ℕ, All, Ok, Option, false, map, slice_get, option_map, true, IfOk, IfSome, OnErr, OnOk};
 ghost use Rattle.mw_types.specs.Causes.{HasCause};
-ghost use Rattle.row_keeper.specs.Rows.{Rows, AreInOrder, entry_of, with_row};
+ghost use Rattle.row_keeper.specs.Rows.{Rows, AreInOrder, IsThere, entry_of, with_edit, with_row};
 ghost use Rattle.key_intervals.specs.Intervals.{covers, rows_covered};
 
 use key_intervals::Bounds;
@@ -64,6 +64,30 @@ pub trait Keeper: Drop {
         ensures unchanged { OnErr result (rows self.new ≡ rows self.old) }
         ensures ordered { IfSome (rows self.new) AreInOrder }
         ensures failed { HasCause (faults self.old) (faults self.new) result KeeperFault.Failed };
+
+    /// Changes the bytes of one row where they lie: `head` stands in the place of as many at their front,
+    /// and `put` in the place of `gone` bytes from `at` on. True where it did so, which counts as a put; a
+    /// keeper that cannot, or has no such row, answers false and has done nothing, and the whole row is
+    /// to be put.
+    fn edit(
+        &mut self,
+        _alloc: Global,
+        _name: &RowName,
+        _head: &[u8],
+        _at: usize,
+        _gone: usize,
+        _put: &[u8],
+    ) -> Result<bool, KeeperFault>
+        ensures edited { result ≡ Ok true → rows self.new
+            ≡ option_map (with_edit _name.now _head.now _at _gone _put.now) (rows self.old) }
+        ensures there { result ≡ Ok true → IfSome (rows self.old) (IsThere _name.now) }
+        ensures whole { result ≡ Ok false → rows self.new ≡ rows self.old }
+        ensures unchanged { OnErr result (rows self.new ≡ rows self.old) }
+        ensures ordered { IfSome (rows self.old) AreInOrder → IfSome (rows self.new) AreInOrder }
+        ensures failed { HasCause (faults self.old) (faults self.new) result KeeperFault.Failed }
+    {
+        Ok(false)
+    }
 
     /// The rows of an interval, ascending by name. Any keeper keeps to the interval and the order, also
     /// one whose rows no contract can see.

@@ -1,7 +1,8 @@
 //! A keeper in memory, whose rows a contract can see, and which fails at named calls.
-ghost use Rattle.std.specs.Prelude.{◌≡◌, ◌++◌, ◌∷◌, [], All, map, slice_get, option_map, true, IfOk, OnErr, OnOk};
+ghost use Rattle.std.specs.Prelude.{◌≡◌, ◌≢◌, ◌≤◌, ◌+◌, ◌++◌, ◌∷◌, [], All, Ok, drop, false, length, map, slice_get, option_map, take, true, IfOk, IsTrue, OnErr, OnOk};
+ghost use Rattle.std.specs.Vec.{vec_capacity};
 ghost use Rattle.mw_types.specs.Orders.{row_cmp};
-ghost use Rattle.row_keeper.specs.Rows.{AreInOrder, entry_of, with_row};
+ghost use Rattle.row_keeper.specs.Rows.{AreInOrder, HasPlace, IsThere, edited, entry_of, with_edit, with_row};
 ghost use Rattle.key_intervals.specs.Intervals.{covers, rows_covered};
 ghost use Rattle.row_keeper.specs.Memory.{CountsCall};
 ghost use Rattle.row_keeper.specs.declared.keeper.KeptRow.{KeptRow};
@@ -88,6 +89,31 @@ impl Keeper for MemKeeper {
         Ok(keep(alloc, &mut self.rows, name, bytes)?)
     }
 
+    fn edit(
+        &mut self,
+        alloc: Global,
+        name: &RowName,
+        head: &[u8],
+        at: usize,
+        gone: usize,
+        put: &[u8],
+    ) -> Result<bool, KeeperFault>
+        ensures edited { result ≡ Ok true →
+            self.new.rows ≡ with_edit name.now head.now at gone put.now self.old.rows }
+        ensures there { result ≡ Ok true → IsThere name.now self.old.rows }
+        ensures whole { result ≡ Ok false → self.new ≡ self.old }
+        ensures unchanged { OnErr result (self.new.rows ≡ self.old.rows) }
+        ensures ordered { AreInOrder self.new.rows }
+        ensures counts { result ≢ Ok false → CountsCall self.old self.new result }
+    {
+        if !has_place(&self.rows, name, head.len(), at, gone) {
+            return Ok(false);
+        }
+        self.calls.begin()?;
+        edit_row(alloc, &mut self.rows, name, head, at, gone, put)?;
+        Ok(true)
+    }
+
     #[tactic(auto, using(crate::proofs::Answered::found_covered, crate::proofs::Answered::found_ascending))]
     fn scan(&mut self, alloc: Global, bounds: &Bounds) -> Result<KeptRowList, KeeperFault>
         ensures within { IfOk result (λ found.
@@ -161,6 +187,109 @@ fn hold(alloc: Global, rows: &mut RowMap, name: &RowName, bytes: &[u8]) -> Resul
     Ok(())
 }
 
+// Whether the row of this name has so many bytes at its front, and so many from a place behind on.
+fn has_place(rows: &RowMap, name: &RowName, front: usize, at: usize, gone: usize) -> bool
+    ensures { IsTrue result → HasPlace name.now front at gone rows.now.entries }
+{
+    match rows.get(name) {
+        Some(held) => front <= at && at <= held.len() && gone <= held.len() - at,
+        None => false,
+    }
+}
+
+// Edits the bytes of the row of this name, which has the place.
+fn edit_row(
+    alloc: Global,
+    rows: &mut RowMap,
+    name: &RowName,
+    head: &[u8],
+    at: usize,
+    gone: usize,
+    put: &[u8],
+) -> Result<(), NoMemory>
+    requires { HasPlace name.now (length head.now) at gone rows.old.entries }
+    ensures edited { OnOk result
+        (rows.new.entries ≡ with_edit name.now head.now at gone put.now rows.old.entries) }
+    ensures unchanged { OnErr result (rows.new.entries ≡ rows.old.entries) }
+    ensures ordered { AreInOrder rows.old.entries → AreInOrder rows.new.entries }
+{
+    match rows.get_mut(name) {
+        Some(held) => edit_held(alloc, held, head, at, gone, put),
+        None => Ok(()),
+    }
+}
+
+// Edits bytes that are held, which stay where memory runs out.
+fn edit_held(
+    alloc: Global,
+    held: &mut Bytes,
+    head: &[u8],
+    at: usize,
+    gone: usize,
+    put: &[u8],
+) -> Result<(), NoMemory>
+    requires head { length head.now ≤ at }
+    requires within { at + gone ≤ length held.old }
+    ensures edited { OnOk result (held.new ≡ edited head.now at gone put.now held.old) }
+    ensures unchanged { OnErr result (held.new ≡ held.old) }
+{
+    let mut list = replace(held, Bytes::new(alloc)).into_vec();
+    let done = edit_list(&mut list, head, at, gone, put);
+    *held = Bytes::from_vec(list);
+    done
+}
+
+// Edits a list of bytes, which stays where memory runs out.
+fn edit_list(
+    list: &mut Vec<u8>,
+    head: &[u8],
+    at: usize,
+    gone: usize,
+    put: &[u8],
+) -> Result<(), NoMemory>
+    requires head { length head.now ≤ at }
+    requires within { at + gone ≤ length list.old.items }
+    ensures edited { OnOk result
+        (list.new.items ≡ edited head.now at gone put.now list.old.items) }
+    ensures unchanged { OnErr result (list.new.items ≡ list.old.items) }
+{
+    put_in(list, at, put)?;
+    cut_out(list, at + put.len(), gone);
+    set_front(list.as_mut_slice(), head);
+    Ok(())
+}
+
+// Sets as many bytes at the front.
+fn set_front(bytes: &mut [u8], head: &[u8])
+    requires { length head.now ≤ length bytes.old }
+    ensures set { bytes.new ≡ head.now ++ drop (length head.now) bytes.old }
+    ensures len { length bytes.new ≡ length bytes.old }
+{
+    bytes[..head.len()].copy_from_slice(head);
+}
+
+// Puts these bytes in at a place; those from there on move up.
+fn put_in(list: &mut Vec<u8>, at: usize, put: &[u8]) -> Result<(), NoMemory>
+    requires { at ≤ length list.old.items }
+    ensures put { OnOk result
+        (list.new.items ≡ take at list.old.items ++ (put.now ++ drop at list.old.items)) }
+    ensures unchanged { OnErr result (list.new.items ≡ list.old.items) }
+{
+    make_room(list, list.len().saturating_add(put.len()))?;
+    list.extend_from_slice(put)?;
+    list[at..].rotate_right(put.len());
+    Ok(())
+}
+
+// Cuts so many bytes out from a place on; those behind move down.
+fn cut_out(list: &mut Vec<u8>, at: usize, gone: usize)
+    requires { at + gone ≤ length list.old.items }
+    ensures { list.new.items ≡ take at list.old.items ++ drop (at + gone) list.old.items }
+{
+    list[at..].rotate_left(gone);
+    list.truncate(list.len() - gone);
+}
+
 // Puts these bytes in the place of those that are held, which stay where memory runs out.
 fn put_over(alloc: Global, held: &mut Bytes, bytes: &[u8]) -> Result<(), NoMemory>
     ensures put { OnOk result (held.new ≡ bytes.now) }
@@ -172,8 +301,7 @@ fn put_over(alloc: Global, held: &mut Bytes, bytes: &[u8]) -> Result<(), NoMemor
     done
 }
 
-// Has room for these bytes before it lets the old ones go: where it has to take memory an eighth more, so that
-// a row that grows takes some seldom, and never for much more than twice as many.
+// Has room for these bytes before it lets the old ones go, and never for much more than twice as many.
 fn overwrite(alloc: Global, list: &mut Vec<u8>, bytes: &[u8]) -> Result<(), NoMemory>
     ensures put { OnOk result (list.new.items ≡ bytes.now) }
     ensures unchanged { OnErr result (list.new.items ≡ list.old.items) }
@@ -182,12 +310,22 @@ fn overwrite(alloc: Global, list: &mut Vec<u8>, bytes: &[u8]) -> Result<(), NoMe
         *list = list_of(alloc, bytes)?.into_vec();
         return Ok(());
     }
-    if list.capacity() < bytes.len() {
-        let room = bytes.len().saturating_add(bytes.len() / 8);
-        list.reserve_exact(room.saturating_sub(list.len()))?;
-    }
+    make_room(list, bytes.len())?;
     list.clear();
     list.extend_from_slice(bytes)?;
+    Ok(())
+}
+
+// Makes room for so many bytes: where it has to take memory an eighth more, so that a row that grows takes
+// some seldom.
+fn make_room(list: &mut Vec<u8>, bytes: usize) -> Result<(), NoMemory>
+    ensures unchanged { list.new.items ≡ list.old.items }
+    ensures room { OnOk result (bytes ≤ vec_capacity list.new) }
+{
+    if list.capacity() < bytes {
+        let room = bytes.saturating_add(bytes / 8);
+        list.reserve_exact(room.saturating_sub(list.len()))?;
+    }
     Ok(())
 }
 
