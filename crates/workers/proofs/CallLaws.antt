@@ -1,5 +1,5 @@
 -- What each call of a worker appends, by what it answers.
-use Rattle.std.proofs.Common.{◌≡◌, ◌≤◌, ◌∙◌, ◌∷◌, ℕ, Bool, true, false, List, [], refl, sym, ap, subst, arith, inl, inr}
+use Rattle.std.proofs.Common.{◌≡◌, ◌≤◌, ◌∙◌, ◌∷◌, ◌==◌, ℕ, Bool, true, false, cond, List, [], length, refl, sym, ap, subst, arith, inl, inr}
 use Rattle.std.specs.Prelude.{Option, Some, None, IsSome, IfOk, IfSome, OnErr, Result, Ok, Err, if◌then◌else◌, unwrap_or}
 use Rattle.std.specs.Option.{is_some, option_and_then, option_map, option_map_or}
 use Rattle.std.proofs.lemmas.Bool.{cases_eq, ne_eqb}
@@ -10,6 +10,7 @@ use Rattle.mw_types.specs.declared.entry.Entry.{Entry}
 use Rattle.mw_types.specs.declared.entry.Entry.TheVariants as entries
 use Rattle.mw_types.specs.declared.identity.RecordId.{RecordId}
 use Rattle.mw_types.specs.declared.identity.RowName.{RowName}
+use Rattle.mw_types.specs.declared.record.Record.{Record}
 use Rattle.injector.specs.Sources.{item_at}
 use Rattle.injector.specs.declared.item.Item.{Item}
 use Rattle.topology.specs.Shapes.{Shape}
@@ -33,17 +34,20 @@ use Rattle.node.specs.declared.outcome.Outcome.TheVariants as outcomes
 use Rattle.outbox.specs.declared.outgoing.Outgoing.{Outgoing}
 use Rattle.outbox.specs.declared.outgoing.Outgoing.TheVariants as outgoing
 use Rattle.node.proofs.FitLaws.{held-interval}
-use Rattle.workers.specs.Serving.{HasServed, appended, entries_of}
-use Rattle.workers.specs.Slices.{IsOvertaken, KeepsLeases}
-use Rattle.workers.proofs.Serving.{leases-same, served-kept}
+use Rattle.workers.specs.Serving.{HasServed, HasServedLines, appended, entries_of, lines_each, lines_of}
+use Rattle.workers.specs.Slices.{IsOvertaken, KeepsLeases, injected}
+use Rattle.workers.proofs.FewLines.{few-looked, few-written}
+use Rattle.workers.proofs.Leases.{leases-same}
+use Rattle.workers.proofs.Serving.{served-kept, served-more}
 use Rattle.workers.proofs.Working.{worked-looked, worked-once}
 
 -- ---- what is asked for
 
--- a request carries the sequencer of a lease that is held
-pub record IsServable (all : List (Option HeldView)) (asked : Request) : Type 0 where
+-- a request carries the sequencer of a lease that is held, and injects at most so many lines
+pub record IsServable (lines : ℕ → ℕ) (all : List (Option HeldView)) (asked : Request) : Type 0 where
   pub carries : IsSome (sequencer_of asked.entry)
   pub held : leases_of all asked.lease.interval ≡ Some asked.lease.seq
+  pub few : (part : ℕ) → injected part (asked.entry ∷ []) ≤ lines part
 
 -- the lease of what is held of an interval
 lease-at : (case : CaseShape) (desk : DeskView) (node : NodeView) (interval : ℕ) (held : HeldView) → Fits case desk node
@@ -58,9 +62,15 @@ pub lease-on : (case : CaseShape) (desk : DeskView) (node : NodeView) (name : Ro
 lease-on case desk node name held fits on =
     let at = held-interval case.topology node.held name held on in lease-at case desk node at.0 held fits at.2
 
+-- an injected line is one of its injector
+line-few : (injector part seq line : ℕ) (item : Record)
+    → injected part (entries.Inject seq injector line item ∷ []) ≤ lines_of injector 1 part
+line-few injector part seq line item = elim (injector == part) as (λ b. length (cond b (entries.Inject seq injector line item ∷ []) [])
+    ≤ cond b 1 0) [ true ↦ omega arith | false ↦ omega arith ]
+
 -- the next line of an injector
 pub line-servable : (case : CaseShape) (desk : DeskView) (node : NodeView) (part : ℕ) → Fits case desk node
-    → IfSome (line_asked case node part) (IsServable node.held)
+    → IfSome (line_asked case node part) (IsServable (lines_of part 1) node.held)
 line-servable case desk node part fits = by_held (held_on case.topology node.held name) refl
   where
     name : RowName
@@ -72,39 +82,43 @@ line-servable case desk node part fits = by_held (held_on case.topology node.hel
           name = name;
           entry = entries.Inject held.lease.seq part line (record_of item);
           late = item.late;
-        }) o) (IsServable node.held)
+        }) o) (IsServable (lines_of part 1) node.held)
     by_item held on line None = tt
-    by_item held on line (Some item) = record { carries = refl; held = lease-on case desk node name held fits on }
+    by_item held on line (Some item) = record {
+      carries = refl;
+      held = lease-on case desk node name held fits on;
+      few = λ p. line-few part p held.lease.seq line (record_of item);
+    }
 
     by_held : (o : Option HeldView) → held_on case.topology node.held name ≡ o
-        → IfSome (option_and_then (next_line case name) o) (IsServable node.held)
+        → IfSome (option_and_then (next_line case name) o) (IsServable (lines_of part 1) node.held)
     by_held None on = tt
     by_held (Some held) on = let line = cursor_in (row_held case.topology held name).state in
         by_item held on line (item_at (source_of case part) line)
 
 -- what is prepared
 pub work-servable : (case : CaseShape) (desk : DeskView) (node : NodeView) → Fits case desk node
-    → IfSome (work_asked case.topology node) (IsServable node.held)
+    → IfSome (work_asked case.topology node) (IsServable (lines_each 0) node.held)
 work-servable case desk node fits = by_work node.prepared
   where
     by_held : (d : Delivery) (effects : EffectsView) (o : Option HeldView) → held_on case.topology node.held d.to ≡ o
-        → IfSome (option_map (handled_as d effects) o) (IsServable node.held)
+        → IfSome (option_map (handled_as d effects) o) (IsServable (lines_each 0) node.held)
     by_held d effects None on = tt
-    by_held d effects (Some held) on = record { carries = refl; held = lease-on case desk node d.to held fits on }
+    by_held d effects (Some held) on = record { carries = refl; held = lease-on case desk node d.to held fits on; few = λ part. omega arith }
 
-    by_proposal : (p : Proposal) → IfSome (proposed case.topology node.held p) (IsServable node.held)
+    by_proposal : (p : Proposal) → IfSome (proposed case.topology node.held p) (IsServable (lines_each 0) node.held)
     by_proposal (proposals.Handle d effects) = by_held d effects (held_on case.topology node.held d.to) refl
     by_proposal _ = tt
 
     by_work : (o : Option WorkView)
-        → IfSome (option_and_then (λ (work : WorkView). proposed case.topology node.held work.proposal) o) (IsServable node.held)
+        → IfSome (option_and_then (λ (work : WorkView). proposed case.topology node.held work.proposal) o) (IsServable (lines_each 0) node.held)
     by_work None = tt
     by_work (Some work) = by_proposal work.proposal
 
 -- an acknowledgement
 settling-servable : (case : CaseShape) (desk : DeskView) (node : NodeView) (to : RowName) (id : RecordId) (held : HeldView)
     → Fits case desk node → held_on case.topology node.held to ≡ Some held
-    → IfSome (settling case.topology to id held) (IsServable node.held)
+    → IfSome (settling case.topology to id held) (IsServable (lines_each 0) node.held)
 settling-servable case desk node to id held fits on = by_found (found_delivery id (row_held case.topology held to).pending)
   where
     by_found : (o : Option Delivery) → IfSome (option_map (λ (d : Delivery). record {
@@ -112,24 +126,26 @@ settling-servable case desk node to id held fits on = by_found (found_delivery i
       name = to;
       entry = entries.Ack held.lease.seq to id;
       late = false;
-    }) o) (IsServable node.held)
+    }) o) (IsServable (lines_each 0) node.held)
     by_found None = tt
-    by_found (Some d) = record { carries = refl; held = lease-on case desk node to held fits on }
+    by_found (Some d) = record { carries = refl; held = lease-on case desk node to held fits on; few = λ part. omega arith }
 
 -- a timer
 pub fire-servable : (case : CaseShape) (desk : DeskView) (node : NodeView) (part mark : ℕ) (asked : Request) → Fits case desk node
-    → MayAskFire case node part mark asked → IsServable node.held asked
-fire-servable case desk node part mark asked fits may = subst (IsServable node.held) (sym may.request) (record {
+    → MayAskFire case node part mark asked → IsServable (lines_each 0) node.held asked
+fire-servable case desk node part mark asked fits may = subst (IsServable (lines_each 0) node.held) (sym may.request) (record {
   carries = refl;
   held = lease-on case desk node may.name may.next.set.held fits may.next.set.there;
+  few = λ part. omega arith;
 })
 
 -- a purge
 pub purge-servable : (case : CaseShape) (desk : DeskView) (node : NodeView) (interval many floor : ℕ) (asked : Request)
-    → Fits case desk node → MayAskPurge case.topology node interval many floor asked → IsServable node.held asked
-purge-servable case desk node interval many floor asked fits may = subst (IsServable node.held) (sym may.may.request) (record {
+    → Fits case desk node → MayAskPurge case.topology node interval many floor asked → IsServable (lines_each 0) node.held asked
+purge-servable case desk node interval many floor asked fits may = subst (IsServable (lines_each 0) node.held) (sym may.may.request) (record {
   carries = refl;
   held = lease-on case desk node may.name may.may.held fits may.may.there;
+  few = λ part. omega arith;
 })
 
 -- ---- what is answered
@@ -156,43 +172,46 @@ served-lost case old new lease was node newer fits number held lost = record {
   number = number;
   worked = worked-looked old new lost.looked;
   kept = lost-leases case.topology new.seen was node lease.interval lease.seq held (newer, lost.claim) lost.left;
+  few = few-looked case old new was lost.looked;
 }
 
 -- an entry that was asked for
-served-write : (case : CaseShape) (old new : DeskView) (asked : Request) (after : Worker) (was node : NodeView) (outcome : Outcome)
-    → Fits case new node → node.number ≡ was.number → IsServable was.held asked → after.leases ≡ leases_of was.held
-    → AnswersWrite case.topology old new asked after was node outcome → HasServed case (entries_of outcome) old new was node
-served-write case old new asked after was node (outcomes.Committed commit) fits number may same is = record {
+served-write : (lines : ℕ → ℕ) (case : CaseShape) (old new : DeskView) (asked : Request) (after : Worker) (was node : NodeView)
+    (outcome : Outcome) → Fits case new node → node.number ≡ was.number → IsServable lines was.held asked
+    → after.leases ≡ leases_of was.held → AnswersWrite case.topology old new asked after was node outcome
+    → HasServedLines case (entries_of outcome) lines old new was node
+served-write lines case old new asked after was node (outcomes.Committed commit) fits number may same is = record {
   fits = fits;
   number = number;
   worked = worked-once old new is.before asked.entry is.moved is.appended may.carries;
   kept = leases-same new.seen was node (ap (λ (w : Worker). w.leases) is.left ∙ same);
+  few = few-written case old new is.before asked.entry lines was is.moved is.appended may.few;
 }
-served-write case old new asked after was node (outcomes.Stale newer) fits number may same is =
-    served-lost case old new asked.lease was node newer fits number may.held is
-served-write case old new asked after was node (outcomes.Busy found) fits number may same is =
-    served-kept case old new was node fits number is.idle.looked is.idle.kept
-served-write case old new asked after was node _ fits number may same is = absurd is
+served-write lines case old new asked after was node (outcomes.Stale newer) fits number may same is =
+    served-more lines (served-lost case old new asked.lease was node newer fits number may.held is)
+served-write lines case old new asked after was node (outcomes.Busy found) fits number may same is =
+    served-more lines (served-kept case old new was node fits number is.idle.looked is.idle.kept)
+served-write lines case old new asked after was node _ fits number may same is = absurd is
 
 -- an entry that was asked for, if there was one
-pub served-asked : (case : CaseShape) (old new : DeskView) (asked : Option Request) (after : Worker) (was node : NodeView)
-    (outcome : Outcome) → Fits case new node → node.number ≡ was.number → IfSome asked (IsServable was.held)
-    → after.leases ≡ leases_of was.held → AnswersAsked case.topology old new asked after was node outcome
-    → HasServed case (entries_of outcome) old new was node
-served-asked case old new None after was node outcome fits number may same is =
-    subst (λ (o : Outcome). HasServed case (entries_of o) old new was node) (sym is.0)
-    (served-kept case old new was node fits number is.1.looked is.1.kept)
-served-asked case old new (Some asked) after was node outcome fits number may same is =
-    served-write case old new asked after was node outcome fits number may same is
+pub served-asked : (lines : ℕ → ℕ) (case : CaseShape) (old new : DeskView) (asked : Option Request) (after : Worker)
+    (was node : NodeView) (outcome : Outcome) → Fits case new node → node.number ≡ was.number
+    → IfSome asked (IsServable lines was.held) → after.leases ≡ leases_of was.held
+    → AnswersAsked case.topology old new asked after was node outcome → HasServedLines case (entries_of outcome) lines old new was node
+served-asked lines case old new None after was node outcome fits number may same is =
+    subst (λ (o : Outcome). HasServedLines case (entries_of o) lines old new was node) (sym is.0)
+    (served-more lines (served-kept case old new was node fits number is.1.looked is.1.kept))
+served-asked lines case old new (Some asked) after was node outcome fits number may same is =
+    served-write lines case old new asked after was node outcome fits number may same is
 
--- an entry for which a worker may ask, if there was one
+-- an entry that is no line and for which a worker may ask, if there was one
 pub served-some : (case : CaseShape) (old new : DeskView) (MayAsk : Request → Type 0) (was node : NodeView) (outcome : Outcome)
-    → Fits case new node → node.number ≡ was.number → ((asked : Request) → MayAsk asked → IsServable was.held asked)
+    → Fits case new node → node.number ≡ was.number → ((asked : Request) → MayAsk asked → IsServable (lines_each 0) was.held asked)
     → AnswersSome case.topology old new MayAsk was node outcome → HasServed case (entries_of outcome) old new was node
 served-some case old new MayAsk was node outcomes.Nothing fits number may is =
     served-kept case old new was node fits number is.1.looked is.1.kept
 served-some case old new MayAsk was node outcome fits number may (asked, asks, is) =
-    served-write case old new asked (worker_at was) was node outcome fits number (may asked asks) refl is
+    served-write (lines_each 0) case old new asked (worker_at was) was node outcome fits number (may asked asks) refl is
 
 -- a report appends nothing
 pub served-report : (case : CaseShape) (old new : DeskView) (interval : ℕ) (was node : NodeView) (outcome : Outcome)
@@ -225,7 +244,7 @@ served-settle case old new to id was node outcome before fits number is = by_hel
         → AnswersAck case.topology old new o to id was node outcome → HasServed case (entries_of outcome) old new was node
     by_held None on is = subst (λ (o : Outcome). HasServed case (entries_of o) old new was node) (sym is.0)
         (served-kept case old new was node fits number is.1.looked is.1.kept)
-    by_held (Some held) on is = served-asked case old new (settling case.topology to id held) (worker_at was) was node outcome fits
+    by_held (Some held) on is = served-asked (lines_each 0) case old new (settling case.topology to id held) (worker_at was) was node outcome fits
         number (settling-servable case old was to id held before on) refl is
 
 -- ---- a record that comes
@@ -276,7 +295,7 @@ pub commit-served : (case : CaseShape) (old new : DeskView) (was node : NodeView
     → Fits case new node → node.number ≡ was.number
     → AnswersAsked case.topology old new (work_asked case.topology was) (with_written (sending_of was) (worker_at was)) was node outcome
     → HasServed case (entries_of outcome) old new was node
-commit-served case old new was node outcome before fits number is = served-asked case old new (work_asked case.topology was)
+commit-served case old new was node outcome before fits number is = served-asked (lines_each 0) case old new (work_asked case.topology was)
     (with_written (sending_of was) (worker_at was)) was node outcome fits number (work-servable case old was before)
     (written-leases (sending_of was) (worker_at was)) is
 
@@ -284,8 +303,8 @@ commit-served case old new was node outcome before fits number is = served-asked
 pub inject-served : (case : CaseShape) (old new : DeskView) (part : ℕ) (was node : NodeView) (outcome : Outcome) → Fits case old was
     → Fits case new node → node.number ≡ was.number
     → AnswersAsked case.topology old new (line_asked case was part) (worker_at was) was node outcome
-    → HasServed case (entries_of outcome) old new was node
-inject-served case old new part was node outcome before fits number is = served-asked case old new (line_asked case was part)
+    → HasServedLines case (entries_of outcome) (lines_of part 1) old new was node
+inject-served case old new part was node outcome before fits number is = served-asked (lines_of part 1) case old new (line_asked case was part)
     (worker_at was) was node outcome fits number (line-servable case old was part before) refl is
 
 -- the next timer of a part fires
@@ -321,11 +340,11 @@ commit-answered case old new was node (Err why) before fits number is looked kep
 pub inject-answered : (case : CaseShape) (old new : DeskView) (part : ℕ) (was node : NodeView) (answer : Result Outcome NodeFault)
     → Fits case old was → Fits case new node → node.number ≡ was.number
     → IfOk answer (AnswersAsked case.topology old new (line_asked case was part) (worker_at was) was node)
-    → OnErr answer (HasLooked old new) → OnErr answer (HasKept was node) → HasServed case (appended answer) old new was node
+    → OnErr answer (HasLooked old new) → OnErr answer (HasKept was node) → HasServedLines case (appended answer) (lines_of part 1) old new was node
 inject-answered case old new part was node (Ok outcome) before fits number is looked kept =
     inject-served case old new part was node outcome before fits number is
 inject-answered case old new part was node (Err why) before fits number is looked kept =
-    served-kept case old new was node fits number looked kept
+    served-more (lines_of part 1) (served-kept case old new was node fits number looked kept)
 
 -- a timer fires, or that fails
 pub fire-answered : (case : CaseShape) (old new : DeskView) (part : ℕ) (was node : NodeView) (answer : Result Outcome NodeFault)

@@ -10,7 +10,7 @@ use Rattle.run_history.proofs.Beginnings.{Begins-at}
 use Rattle.node.specs.Workers.{NodeView, leases_of}
 use Rattle.shared_book.specs.Lists.{IsIn}
 use Rattle.workers.specs.Slices.{IsOvertaken}
-use Rattle.workers.proofs.Serving.{overtaken-more}
+use Rattle.workers.proofs.Leases.{overtaken-more}
 use Rattle.workers.specs.Claims.{HasClaimedTo, HasHolder, HaveClaimedOnly, HoldFirst, HoldsSince, LeasesOne}
 use Rattle.workers.specs.Crews.{HasDone, HasToldAll, KeepsNodes, KeepsOwn, OthersStay, desk_of}
 use Rattle.workers.specs.declared.crew.Worker.{Worker}

@@ -26,6 +26,9 @@ pub mod Sending
 pub mod MailboxCounts
 pub mod PassLists
 pub mod Working
+pub mod Leases
+pub mod FewLines
+pub mod PartLines
 pub mod Serving
 pub mod CallLaws
 pub mod FaultLaws

@@ -11,14 +11,16 @@ use Rattle.topology.specs.Shapes.{Shape}
 use Rattle.run_history.specs.Cases.{CaseShape, intervals_of}
 use Rattle.run_history.specs.Fences.{interval_of}
 use Rattle.run_history.proofs.IntervalLaws.{interval_of-has}
-use Rattle.book.specs.Desks.{DeskView}
+use Rattle.book.specs.Desks.{DeskView, HasLooked}
 use Rattle.workers.specs.declared.mailbox.Mailbox.{Mailbox}
 use Rattle.workers.specs.declared.passes.MailPass.{MailPass}
 use Rattle.node.specs.Fits.{Fits}
 use Rattle.node.specs.Workers.{NodeView, leases_of}
 use Rattle.workers.specs.Passing.{ArePasses}
 use Rattle.workers.specs.Serving.{HasServed}
-use Rattle.workers.proofs.Serving.{leases-same}
+use Rattle.workers.proofs.FewLines.{few-not}
+use Rattle.workers.proofs.Leases.{leases-same}
+use Rattle.workers.proofs.Serving.{served-looked}
 use Rattle.workers.proofs.Working.{worked-not}
 
 -- the interval of a row is one of the intervals
@@ -56,4 +58,12 @@ served-rest case desk was node fits rest = record {
   number = ap (λ (n : NodeView). n.number) rest;
   worked = worked-not desk;
   kept = leases-same desk.seen was node (ap (λ (n : NodeView). leases_of n.held) rest);
+  few = few-not case desk was;
 }
+
+-- only what is to be sent changed, and the desk looked
+pub served-sent : (case : CaseShape) (old new : DeskView) (was node : NodeView) → old.case ≡ case → Fits old.case new node
+    → node ≡ record was { outbox = node.outbox } → HasLooked old new → HasServed case 0 old new was node
+served-sent case old new was node of_case fits rest looked = served-looked case old new was node
+    (subst (λ (k : CaseShape). Fits k new node) of_case fits) (ap (λ (n : NodeView). n.number) rest) looked
+    (ap (λ (n : NodeView). leases_of n.held) rest)

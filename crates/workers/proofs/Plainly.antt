@@ -19,7 +19,7 @@ use Rattle.shared_book.proofs.Lists.{in_append}
 use Rattle.workers.specs.Slices.{HasLines, IsOvertaken, injected}
 use Rattle.workers.specs.declared.orders.Orders.{Orders}
 use Rattle.workers.proofs.PassLaws.{interval-below}
-use Rattle.workers.proofs.Serving.{overtaken-more}
+use Rattle.workers.proofs.Leases.{overtaken-more}
 use Rattle.workers.specs.Claims.{AreQuiet, HaveClaimedOnly, HaveLines, HoldFirst, HoldsSince, IsNoClaim}
 use Rattle.workers.specs.Crews.{AreCalm, AreHealthy, HasWorkedOnce, HaveWorked, KeepsOrders, KeepsWork, desk_of}
 use Rattle.workers.specs.declared.crew.Worker.{Worker}
@@ -189,7 +189,7 @@ lines-worked {K} {J} {g} id case boxes many part interval seq was now turn calm 
         (λ held. ⊎_elim
         (λ is. inl is)
         (λ more. inr (lines-add (length (source_of case part)) many (injected part (desk_of was).seen)
-        (injected part (desk_of now).seen) few more))
+        (injected part (desk_of now).seen) few (omega (arith, more))))
         (turned interval seq lies held))
         (λ is. inl (over is))
         holds.held)

@@ -1,11 +1,8 @@
 -- What a worker's calls did is added up.
-use Rattle.std.proofs.Common.{◌≡◌, ◌∙◌, ◌≤◌, ◌+◌, ◌++◌, ℕ, List, refl, sym, ap, subst, arith, inl, inr, ⊎_elim}
-use Rattle.std.specs.Prelude.{Option, IfErr, IfOk, Result, Ok, Err}
+use Rattle.std.proofs.Common.{◌≡◌, ◌∙◌, ◌≤◌, ◌+◌, ℕ, refl, ap, subst, arith, inl}
+use Rattle.std.specs.Prelude.{IfErr, IfOk, Result, Ok, Err}
 use Rattle.mw_types.proofs.CauseLaws.{Rose-before}
-use Rattle.mw_types.specs.declared.entry.Entry.{Entry}
 use Rattle.run_history.specs.Cases.{CaseShape}
-use Rattle.run_history.proofs.Beginnings.{slice_get-more}
-use Rattle.run_history.proofs.Claims.{last_claim-latest, last_claim-there}
 use Rattle.book.specs.Desks.{DeskView, HasLooked}
 use Rattle.node.specs.Answers.{HasKept}
 use Rattle.node.specs.Fits.{Fits}
@@ -13,37 +10,23 @@ use Rattle.node.specs.Workers.{NodeView, Worker, leases_of}
 use Rattle.node.specs.declared.outcome.NodeFault.{NodeFault}
 use Rattle.node.specs.declared.outcome.Outcome.{Outcome}
 use Rattle.node.specs.declared.outcome.Outcome.TheVariants as outcomes
-use Rattle.workers.specs.Serving.{HasServed, IsBusy, appended, entries_of}
-use Rattle.workers.specs.Slices.{HasWorked, IsOvertaken, IsSliceFault, KeepsLeases}
+use Rattle.workers.specs.Serving.{HasServed, HasServedLines, IsBusy, appended, entries_of, lines_each}
+use Rattle.workers.specs.Slices.{HasWorked, IsSliceFault}
+use Rattle.workers.proofs.FewLines.{few-idle, few-looked, few-not, few-then, few-within}
+use Rattle.workers.proofs.Leases.{leases-both, leases-same}
 use Rattle.workers.proofs.Working.{worked-less, worked-looked, worked-not, worked-then}
-
--- ---- leases
-
--- a lease that was overtaken stays so
-pub overtaken-more : (interval seq : ℕ) (front rest : List Entry) → IsOvertaken interval seq front
-    → IsOvertaken interval seq (front ++ rest)
-overtaken-more interval seq front rest (newer, (last, later)) =
-    let there = last_claim-there interval newer front last in
-    let latest = last_claim-latest interval newer there.0 (front ++ rest) (slice_get-more front newer _ rest there.1) in
-    (latest.0, (latest.2, let up = latest.1 in omega (arith, later, up)))
-
--- the same leases are held
-pub leases-same : (seen : List Entry) (was node : NodeView) → leases_of node.held ≡ leases_of was.held → KeepsLeases seen was node
-leases-same seen was node same interval seq is = inl (ap (λ (f : ℕ → Option ℕ). f interval) same ∙ is)
-
--- what keeps leases once and again keeps them
-pub leases-both : (mid rest new : List Entry) (was between node : NodeView) → new ≡ mid ++ rest → KeepsLeases mid was between
-    → KeepsLeases new between node → KeepsLeases new was node
-leases-both mid rest new was between node more one two interval seq is = ⊎_elim
-    (λ held. two interval seq held)
-    (λ gone. inr (subst (IsOvertaken interval seq) (sym more) (overtaken-more interval seq mid rest gone)))
-    (one interval seq is)
 
 -- ---- calls
 
 -- nothing was done
 pub served-not : {case : CaseShape} {desk : DeskView} {node : NodeView} → Fits case desk node → HasServed case 0 desk desk node node
-served-not {desk = desk} fits = record { fits = fits; number = refl; worked = worked-not desk; kept = λ interval seq is. inl is }
+served-not {case} {desk} {node} fits = record {
+  fits = fits;
+  number = refl;
+  worked = worked-not desk;
+  kept = λ interval seq is. inl is;
+  few = few-not case desk node;
+}
 
 -- a desk was looked at, and the leases are the same
 pub served-looked : (case : CaseShape) (old new : DeskView) (was node : NodeView) → Fits case new node → node.number ≡ was.number
@@ -53,6 +36,7 @@ served-looked case old new was node fits number looked same = record {
   number = number;
   worked = worked-looked old new looked;
   kept = leases-same new.seen was node same;
+  few = few-looked case old new was looked;
 }
 
 -- a desk was looked at, and the worker is as it was
@@ -62,24 +46,53 @@ served-kept case old new was node fits number looked kept =
     served-looked case old new was node fits number looked (ap (λ (w : Worker). w.leases) kept)
 
 -- at most so many is at most more
-pub served-less : {case : CaseShape} {old new : DeskView} {was node : NodeView} (m n : ℕ) → m ≤ n → HasServed case m old new was node
-    → HasServed case n old new was node
-served-less {old = old} {new = new} m n less served = record {
+pub served-within : {case : CaseShape} {old new : DeskView} {was node : NodeView} {f : ℕ → ℕ} (g : ℕ → ℕ) (m n : ℕ) → m ≤ n
+    → ((part : ℕ) → f part ≤ g part) → HasServedLines case m f old new was node → HasServedLines case n g old new was node
+served-within {case} {old} {new} {was} {node} {f} g m n less fewer served = record {
   fits = served.fits;
   number = served.number;
   worked = worked-less m n old new less served.worked;
   kept = served.kept;
+  few = few-within case old new was f g m n less fewer served.few;
+}
+
+-- so it is of entries alone
+pub served-less : {case : CaseShape} {old new : DeskView} {was node : NodeView} {f : ℕ → ℕ} (m n : ℕ) → m ≤ n
+    → HasServedLines case m f old new was node → HasServedLines case n f old new was node
+served-less {f = f} m n less served = served-within f m n less (λ part. omega arith) served
+
+-- and of lines alone
+pub served-more : {case : CaseShape} {old new : DeskView} {was node : NodeView} {m : ℕ} (g : ℕ → ℕ)
+    → HasServed case m old new was node → HasServedLines case m g old new was node
+served-more {m = m} g served = served-within g m m (omega arith) (λ part. omega arith) served
+
+-- who appended nothing injected nothing
+pub served-idle : {case : CaseShape} {old new : DeskView} {was node : NodeView} {f : ℕ → ℕ} (m : ℕ) → m ≡ 0
+    → HasServedLines case m f old new was node → HasServed case 0 old new was node
+served-idle {case} {old} {new} {was} {node} {f} m none served = record {
+  fits = served.fits;
+  number = served.number;
+  worked = worked-less m 0 old new (omega (arith, none)) served.worked;
+  kept = served.kept;
+  few = few-idle case old new was f m none served.few;
 }
 
 -- calls after calls
-pub served-then : {case : CaseShape} {old mid new : DeskView} {was between node : NodeView} (m n k : ℕ) → m + n ≤ k
-    → HasServed case m old mid was between → HasServed case n mid new between node → HasServed case k old new was node
-served-then {old = old} {mid = mid} {new = new} {was = was} {between = between} {node = node} m n k less one two = record {
+pub served-lines : {case : CaseShape} {old mid new : DeskView} {was between node : NodeView} {f g : ℕ → ℕ} (h : ℕ → ℕ) (m n k : ℕ)
+    → m + n ≤ k → ((part : ℕ) → f part + g part ≤ h part) → HasServedLines case m f old mid was between
+    → HasServedLines case n g mid new between node → HasServedLines case k h old new was node
+served-lines {case} {old} {mid} {new} {was} {between} {node} {f} {g} h m n k less fewer one two = record {
   fits = two.fits;
   number = two.number ∙ one.number;
   worked = worked-then m n k old mid new less one.worked two.worked;
   kept = leases-both mid.seen two.worked.rest new.seen was between node two.worked.more one.kept two.kept;
+  few = few-then case old mid new was between f g h m n k less fewer one.fits one.worked two.worked one.kept one.few two.few;
 }
+
+-- and so calls that inject no line
+pub served-then : {case : CaseShape} {old mid new : DeskView} {was between node : NodeView} (m n k : ℕ) → m + n ≤ k
+    → HasServed case m old mid was between → HasServed case n mid new between node → HasServed case k old new was node
+served-then m n k less one two = served-lines (lines_each 0) m n k less (λ part. omega arith) one two
 
 -- ---- a call that is tried until nobody else has the turn
 
@@ -99,11 +112,11 @@ appended-few (Ok outcome) = entries-few outcome
 appended-few (Err why) = omega arith
 
 -- a try that was turned away
-pub tried-again : {case : CaseShape} {old mid new : DeskView} {was between node : NodeView} (answer : Result Outcome NodeFault)
-    → HasServed case 0 old mid was between → HasServed case (appended answer) mid new between node → IsBusy answer
+pub tried-again : {case : CaseShape} {old mid new : DeskView} {was between node : NodeView} {f : ℕ → ℕ} (answer : Result Outcome NodeFault)
+    → HasServed case 0 old mid was between → HasServedLines case (appended answer) f mid new between node → IsBusy answer
     → HasServed case 0 old new was node
 tried-again answer one two busy =
-    served-then 0 (appended answer) 0 (let none = entries-busy answer busy in omega (arith, none)) one two
+    served-then 0 0 0 (omega arith) one (served-idle (appended answer) (entries-busy answer busy) two)
 
 -- the last try
 pub tried-last : {case : CaseShape} {old mid new : DeskView} {was between node : NodeView} (answer : Result Outcome NodeFault)
@@ -113,11 +126,13 @@ tried-last answer one two =
     served-then 0 (appended answer) 1 (let few = appended-few answer in omega (arith, few)) one two
 
 -- what the last try answers tells of all
-pub tried-answered : {case : CaseShape} {old mid new : DeskView} {was between node : NodeView} (answer : Result Outcome NodeFault)
-    → HasServed case 0 old mid was between → HasServed case (appended answer) mid new between node
-    → IfOk answer (λ outcome. HasServed case (entries_of outcome) old new was node)
-tried-answered (Ok outcome) one two = served-then 0 (entries_of outcome) (entries_of outcome) (omega arith) one two
-tried-answered (Err why) one two = tt
+pub tried-answered : {case : CaseShape} {old mid new : DeskView} {was between node : NodeView} (f : ℕ → ℕ)
+    (answer : Result Outcome NodeFault) → HasServed case 0 old mid was between
+    → HasServedLines case (appended answer) f mid new between node
+    → IfOk answer (λ outcome. HasServedLines case (entries_of outcome) f old new was node)
+tried-answered f (Ok outcome) one two =
+    served-lines f 0 (entries_of outcome) (entries_of outcome) (omega arith) (λ part. omega arith) one two
+tried-answered f (Err why) one two = tt
 
 -- a call that found nothing to do appended nothing
 pub served-nothing : {case : CaseShape} {old new : DeskView} {was node : NodeView} (outcome : Outcome) → outcome ≡ outcomes.Nothing

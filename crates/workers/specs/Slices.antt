@@ -52,10 +52,10 @@ is_line part _ = false
 abbrev pub injected : ℕ → List Entry → ℕ
 injected part history = length (filter (is_line part) history)
 
--- so many lines more of an injector were injected, or all that it has
+-- exactly so many lines more of an injector were injected, or all that were left
 abbrev pub HasLines : ℕ → CaseShape → ℕ → List Entry → List Entry → Type 0
 HasLines many case part old new =
-    min (length (source_of case part)) (injected part old + many) ≤ injected part new
+    injected part new ≡ min (length (source_of case part)) (injected part old + many)
 
 -- ---- what became of leases
 
@@ -68,15 +68,15 @@ abbrev pub KeepsLeases : List Entry → NodeView → NodeView → Type 0
 KeepsLeases seen was node = (interval seq : ℕ) → leases_of was.held interval ≡ Some seq →
     (leases_of node.held interval ≡ Some seq) ⊎ IsOvertaken interval seq seen
 
--- an injector whose interval a worker held has so many lines more, or all, unless another has overtaken its
--- lease, where a contract can see the keeper's rows
+-- an injector whose interval a worker held has exactly so many lines more, or all that were left, unless
+-- another has overtaken its lease, where a contract can see the keeper's rows
 abbrev pub HasLinesOf : ℕ → CaseShape → ℕ → NodeView → DeskView → DeskView → Type 0
 HasLinesOf many case part was old new = IfSome old.told (λ _. (interval seq : ℕ) →
     interval_of case.topology (record { part = part; key = [] }) ≡ Some interval →
     leases_of was.held interval ≡ Some seq →
     IsOvertaken interval seq new.seen ⊎ HasLines many case part old.seen new.seen)
 
--- each injector has 16 lines more, or all, in this sense
+-- each injector has exactly 16 lines more, or all that were left, in this sense
 abbrev pub HasInjected : CaseShape → NodeView → DeskView → DeskView → Type 0
 HasInjected case was old new = (part : ℕ) → part < injectors_of case.topology →
     HasLinesOf 16 case part was old new

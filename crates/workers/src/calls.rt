@@ -1,8 +1,9 @@
-//! The calls of a worker in its turn of work: each appends at most one entry, and no claim, and a report none.
+//! The calls of a worker in its turn of work: each appends at most one entry, and no claim, a report none, and only
+//! the call that injects a line appends one.
 ghost use Rattle.std.specs.Prelude.{◌≡◌, ◌<◌, ◌≤◌, IfErr, IfOk, IfSome};
 ghost use Rattle.node.specs.Fits.{Fits};
-ghost use Rattle.workers.specs.Serving.{HasServed, IsBusy, appended, lines_told};
-ghost use Rattle.workers.specs.Slices.{HasLinesOf, IsSliceFault};
+ghost use Rattle.workers.specs.Serving.{HasLeastLinesOf, HasServedLines, IsBusy, appended, lines_by, lines_told};
+ghost use Rattle.workers.specs.Slices.{IsSliceFault};
 
 use book::{Desk, Seen};
 use computations::Computation;
@@ -35,11 +36,11 @@ pub(crate) trait Call<N: Seen> {
         requires fits { Fits case.now (D.view desk.old) node.old }
         requires may { may self.now case.now }
 
-        ensures served { HasServed case.now (appended result) (D.view desk.old)
-            (D.view desk.new) node.old node.new }
+        ensures served { HasServedLines case.now (appended result) (lines_by (injector self.now))
+            (D.view desk.old) (D.view desk.new) node.old node.new }
         ensures few { appended result ≤ most self.now }
         ensures lines { (IsBusy result → ⊥) → IfSome (injector self.now) (λ part.
-            IfOk result (λ outcome. HasLinesOf (lines_told outcome) case.now part node.old
+            IfOk result (λ outcome. HasLeastLinesOf (lines_told outcome) case.now part node.old
             (D.view desk.old) (D.view desk.new))) }
         ensures fault { IfErr result (IsSliceFault (D.view desk.old) (D.view desk.new)) }
         ensures loan { D.loan desk.new ≡ D.loan desk.old }

@@ -9,13 +9,13 @@
 //! happens to workers between and in the rounds. Stands on `node`, `shared_book`, `plans` and the kit's
 //! `crossbeam_queue`. Public contract: what is taken from a mailbox is of its office, as what was put is;
 //! `slice` appends so many entries at most, none of them a claim, loses a lease only to another, and fails
-//! only for its cause, and each injector that it had has 16 lines more, or all; after `rounds` the book
-//! comes back, whatever came between the threads' steps, its history goes on by at most so many entries, and
-//! where it was empty it begins with one claim of each interval, each by the worker that the interval's
-//! number names. Definitions, in the order of reading: `specs/Mailboxes.antt` and `specs/PassLists.antt`, what
-//! a mailbox and a pass know; `specs/Slices.antt`, what a turn of work does to a desk; `specs/Passing.antt`,
-//! the mailboxes of a run; `specs/Rounds.antt`, what rounds leave in a history; `specs/Crews.antt` and
-//! `specs/Claims.antt`, what each worker knows between two steps.
+//! only for its cause, and each injector that it had has exactly 16 lines more, or all that were left; after
+//! `rounds` the book comes back, whatever came between the threads' steps, its history goes on by at most so
+//! many entries, and where it was empty it begins with one claim of each interval, each by the worker that
+//! the interval's number names. Definitions, in the order of reading: `specs/Mailboxes.antt` and
+//! `specs/PassLists.antt`, what a mailbox and a pass know; `specs/Slices.antt`, what a turn of work does to
+//! a desk; `specs/Passing.antt`, the mailboxes of a run; `specs/Rounds.antt`, what rounds leave in a
+//! history; `specs/Crews.antt` and `specs/Claims.antt`, what each worker knows between two steps.
 #![tactic(auto)]
 
 mod acting;

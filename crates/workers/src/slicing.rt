@@ -13,6 +13,7 @@ use crate::office::Office;
 use crate::orders::Orders;
 use crate::passes::MailPass;
 use crate::turns::within;
+use book::Desk;
 use computations::Computation;
 use mw_ports::{Gate, Point};
 use node::{Node, NodeFault};
@@ -30,11 +31,12 @@ use std::sync::Wait;
 /// them, up to 1,024 in all, as many as are left of 3,904 when 64 are set aside for each of these
 /// intervals that is still to come. Of each computation up to 16 timers fire for each interval of
 /// it that it has; where none is due it reports these intervals, and goes on where one is due then.
-/// Up to 16 lines of each injector are injected. In each fourth round, what is pending is to be
-/// sent again, and up to 8 times a row of each interval that has 64 ids or more forgets those of
-/// finished records. What it has to send is put into mailboxes, where a message is dropped that
-/// finds no room. Its own work is reported. Where another has the turn to append it tries again. A
-/// worker that stalls ends with the first record that it has handled, unwritten.
+/// Of each injector that it has exactly 16 lines are injected, or all that are left. In each fourth
+/// round, what is pending is to be sent again, and up to 8 times a row of each interval that has 64
+/// ids or more forgets those of finished records. What it has to send is put into mailboxes, where
+/// a message is dropped that finds no room. Its own work is reported. Where another has the turn to
+/// append it tries again. A worker that stalls ends with the first record that it has handled,
+/// unwritten.
 ///
 /// It takes no interval, and appends at most 6,000 entries. It fails only where memory runs out,
 /// the keeper fails or the history is full; what it did before stands. The mailboxes are those of
@@ -71,7 +73,7 @@ pub fn slice<'s, 'a, R: Wait, K: Keeper, C: Computation, G: Gate, J: Office>(
     ensures kept { KeepsLeases (shared_view desk.new.seat.now.place.me.0).seen
         node.old node.new }
 
-    // Each injector that it had has 16 lines more, or all.
+    // Each injector that it had has exactly 16 lines more, or all that were left.
     ensures injected { OnOk result (orders.now.stall ≡ false →
         HasInjected case.now node.old (shared_view desk.old.seat.now.place.me.0)
         (shared_view desk.new.seat.now.place.me.0)) }
@@ -88,10 +90,12 @@ pub fn slice<'s, 'a, R: Wait, K: Keeper, C: Computation, G: Gate, J: Office>(
     ensures case { desk.new.shared.now.case.now ≡ desk.old.shared.now.case.now }
 {
     gate.at(node.worker(), Point::Begin);
+    desk.sound();
     learn(desk, case);
     let done = within(
         rt, alloc, node, desk, case, work, boxes, passes, orders, gate,
     );
+    desk.sound();
     gate.at(node.worker(), Point::End);
     done
 }

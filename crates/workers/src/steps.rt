@@ -6,8 +6,8 @@ ghost use Rattle.node.specs.Fits.{Fits};
 ghost use Rattle.outbox.specs.Messages.{IsComputation};
 ghost use Rattle.node.specs.Works.{IsWorkOf};
 ghost use Rattle.node.specs.declared.outcome.Outcome.TheVariants as outcomes;
-ghost use Rattle.workers.specs.Serving.{HasServed};
-ghost use Rattle.workers.specs.Slices.{HasInjected, HasLinesOf, IsSliceFault};
+ghost use Rattle.workers.specs.Serving.{HasInjectedLeast, HasLeastLinesOf, HasServed, HasServedLines, lines_each, lines_of};
+ghost use Rattle.workers.specs.Slices.{IsSliceFault};
 
 use crate::calls::{Fire, Inject, Purge, Report};
 use crate::counts::{injectors_in, intervals_in, parts_in};
@@ -184,10 +184,10 @@ fn inject_part<R: Wait, N: Seen, D: Desk<Note = N>>(
     requires fits { Fits case.now (D.view desk.old) node.old }
     requires part { part < injectors_of case.now.topology }
 
-    ensures served { HasServed case.now 16 (D.view desk.old) (D.view desk.new)
-        node.old node.new }
+    ensures served { HasServedLines case.now 16 (lines_of part 16) (D.view desk.old)
+        (D.view desk.new) node.old node.new }
     ensures lines { OnOk result
-        (HasLinesOf 16 case.now part node.old (D.view desk.old) (D.view desk.new)) }
+        (HasLeastLinesOf 16 case.now part node.old (D.view desk.old) (D.view desk.new)) }
     ensures fault { IfErr result (IsSliceFault (D.view desk.old) (D.view desk.new)) }
     ensures loan { D.loan desk.new ≡ D.loan desk.old }
     ensures home { D.home desk.new ≡ D.home desk.old }
@@ -211,10 +211,10 @@ pub(crate) fn inject_all<R: Wait, N: Seen, D: Desk<Note = N>>(
 ) -> Result<(), NodeFault>
     requires fits { Fits case.now (D.view desk.old) node.old }
 
-    ensures served { HasServed case.now 256 (D.view desk.old) (D.view desk.new)
-        node.old node.new }
+    ensures served { HasServedLines case.now 256 (lines_each 16) (D.view desk.old)
+        (D.view desk.new) node.old node.new }
     ensures injected { OnOk result
-        (HasInjected case.now node.old (D.view desk.old) (D.view desk.new)) }
+        (HasInjectedLeast case.now node.old (D.view desk.old) (D.view desk.new)) }
     ensures fault { IfErr result (IsSliceFault (D.view desk.old) (D.view desk.new)) }
     ensures loan { D.loan desk.new ≡ D.loan desk.old }
     ensures home { D.home desk.new ≡ D.home desk.old }

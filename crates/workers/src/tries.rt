@@ -3,8 +3,8 @@ ghost use Rattle.std.specs.Prelude.{◌≡◌, ◌<◌, true, IfErr, IfOk, IfSom
 ghost use Rattle.run_history.specs.Finished.{is_handled};
 ghost use Rattle.topology.specs.Shapes.{parts_of};
 ghost use Rattle.node.specs.Fits.{Fits};
-ghost use Rattle.workers.specs.Serving.{HasServed, IsBusy, entries_of, lines_told};
-ghost use Rattle.workers.specs.Slices.{HasLinesOf, IsSliceFault};
+ghost use Rattle.workers.specs.Serving.{HasLeastLinesOf, HasServed, HasServedLines, IsBusy, entries_of, lines_by, lines_told};
+ghost use Rattle.workers.specs.Slices.{IsSliceFault};
 
 use crate::calls::Call;
 use crate::waiting::wait;
@@ -38,12 +38,12 @@ pub(crate) fn until_free<R: Wait, N: Seen, D: Desk<Note = N>, A: Call<N>>(
     requires fits { Fits case.now (D.view desk.old) node.old }
     requires may { A.may call.now case.now }
 
-    ensures served { HasServed case.now (A.most call.now) (D.view desk.old)
-        (D.view desk.new) node.old node.new }
-    ensures answered { IfOk result (λ outcome. HasServed case.now (entries_of outcome)
-        (D.view desk.old) (D.view desk.new) node.old node.new) }
+    ensures served { HasServedLines case.now (A.most call.now) (lines_by (A.injector call.now))
+        (D.view desk.old) (D.view desk.new) node.old node.new }
+    ensures answered { IfOk result (λ outcome. HasServedLines case.now (entries_of outcome)
+        (lines_by (A.injector call.now)) (D.view desk.old) (D.view desk.new) node.old node.new) }
     ensures lines { IfSome (A.injector call.now) (λ part. IfOk result (λ outcome.
-        HasLinesOf (lines_told outcome) case.now part node.old
+        HasLeastLinesOf (lines_told outcome) case.now part node.old
         (D.view desk.old) (D.view desk.new))) }
     ensures fault { IfErr result (IsSliceFault (D.view desk.old) (D.view desk.new)) }
     ensures loan { D.loan desk.new ≡ D.loan desk.old }

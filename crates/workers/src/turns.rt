@@ -5,8 +5,8 @@ ghost use Rattle.book.specs.Desks.{DeskView};
 ghost use Rattle.node.specs.Fits.{Fits};
 ghost use Rattle.node.specs.Works.{IsWorkOf};
 ghost use Rattle.workers.specs.Passing.{ArePasses};
-ghost use Rattle.workers.specs.Serving.{HasServed};
-ghost use Rattle.workers.specs.Slices.{HasInjected, IsSliceFault};
+ghost use Rattle.workers.specs.Serving.{HasInjectedLeast, HasServed, HasServedLines, lines_each};
+ghost use Rattle.workers.specs.Slices.{IsSliceFault};
 
 use crate::calls::Commit;
 use crate::mailbox::Mailbox;
@@ -135,10 +135,10 @@ fn work_on<R: Wait, N: Seen, D: Desk<Note = N>, C: Computation>(
     requires work { IsWorkOf case.now.topology (C.has work.now)
         (C.gives_record work.now) (C.gives_timer work.now) }
 
-    ensures served { HasServed case.now 1232 (D.view desk.old) (D.view desk.new)
-        node.old node.new }
+    ensures served { HasServedLines case.now 1232 (lines_each 16) (D.view desk.old)
+        (D.view desk.new) node.old node.new }
     ensures injected { OnOk result
-        (HasInjected case.now node.old (D.view desk.old) (D.view desk.new)) }
+        (HasInjectedLeast case.now node.old (D.view desk.old) (D.view desk.new)) }
     ensures fault { IfErr result (IsSliceFault (D.view desk.old) (D.view desk.new)) }
     ensures loan { D.loan desk.new ≡ D.loan desk.old }
     ensures home { D.home desk.new ≡ D.home desk.old }
@@ -166,10 +166,10 @@ fn go_on<R: Wait, N: Seen, D: Desk<Note = N>, C: Computation, J: Office>(
     requires book { (D.home desk.old).book ≡ J.book }
     requires passes { ArePasses (length (intervals_of case.now.topology)) boxes.now passes.old }
 
-    ensures served { HasServed case.now 1720 (D.view desk.old) (D.view desk.new)
-        node.old node.new }
+    ensures served { HasServedLines case.now 1720 (lines_each 16) (D.view desk.old)
+        (D.view desk.new) node.old node.new }
     ensures injected { OnOk result
-        (HasInjected case.now node.old (D.view desk.old) (D.view desk.new)) }
+        (HasInjectedLeast case.now node.old (D.view desk.old) (D.view desk.new)) }
     ensures fault { IfErr result (IsSliceFault (D.view desk.old) (D.view desk.new)) }
     ensures passes { ArePasses (length (intervals_of case.now.topology)) boxes.now passes.new }
     ensures loan { D.loan desk.new ≡ D.loan desk.old }
@@ -202,10 +202,10 @@ pub(crate) fn within<R: Wait, N: Seen, D: Desk<Note = N>, C: Computation, G: Gat
     requires book { (D.home desk.old).book ≡ J.book }
     requires passes { ArePasses (length (intervals_of case.now.topology)) boxes.now passes.old }
 
-    ensures served { HasServed case.now 6000 (D.view desk.old) (D.view desk.new)
-        node.old node.new }
+    ensures served { HasServedLines case.now 6000 (lines_each 16) (D.view desk.old)
+        (D.view desk.new) node.old node.new }
     ensures injected { OnOk result (orders.now.stall ≡ false →
-        HasInjected case.now node.old (D.view desk.old) (D.view desk.new)) }
+        HasInjectedLeast case.now node.old (D.view desk.old) (D.view desk.new)) }
     ensures fault { IfErr result (IsSliceFault (D.view desk.old) (D.view desk.new)) }
     ensures passes { ArePasses (length (intervals_of case.now.topology)) boxes.now passes.new }
     ensures loan { D.loan desk.new ≡ D.loan desk.old }

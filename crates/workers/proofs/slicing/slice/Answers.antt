@@ -3,8 +3,9 @@ use Rattle.list_lemmas.proofs.Told.{on_ok-map}
 use Rattle.book.specs.Desks.{DeskView, Home}
 use Rattle.shared_book.specs.SharedDesks.{shared_view}
 use Rattle.shared_book.proofs.DeskFacts.{one-table}
-use Rattle.workers.proofs.LineLaws.{injected-behind}
-use Rattle.workers.proofs.Serving.{faults-after, served-then}
+use Rattle.workers.specs.Serving.{lines_each}
+use Rattle.workers.proofs.LineLaws.{injected-behind, injected-exactly}
+use Rattle.workers.proofs.Serving.{faults-after, served-lines}
 use Rattle.workers.proofs.slicing.slice.Goals as goal
 
 pub learn-requires : goal.learn-requires
@@ -23,14 +24,14 @@ pub returns : goal.returns
 returns g c =
     let new : DeskView = shared_view c.within-done.new.desk.seat.now.place.me.0 in
     let learnt = c.learn.ensures.served c.args.node.now c.requires.fits in
-    let all = served-then 0 6000 6000 (omega arith) learnt c.within-done.ensures.served in
+    let all = served-lines (lines_each 16) 0 6000 6000 (omega arith) (λ part. omega arith) learnt c.within-done.ensures.served in
     let home = c.within-done.ensures.home ∙ c.learn.ensures.home in record {
       fits = all.fits;
       number = all.number;
       worked = all.worked;
       kept = all.kept;
-      injected = on_ok-map c.within-done.result (λ injects stall. injected-behind learnt c.within-done.ensures.served (injects stall))
-          c.within-done.ensures.injected;
+      injected = on_ok-map c.within-done.result (λ injects stall. injected-exactly c.sound.ensures.sound c.sound-2.ensures.sound
+          c.requires.fits all (injected-behind learnt c.within-done.ensures.served (injects stall))) c.within-done.ensures.injected;
       fault = faults-after new c.within-done.result learnt.worked c.within-done.ensures.fault;
       passes = c.within-done.ensures.passes;
       loan = c.within-done.ensures.loan ∙ c.learn.ensures.loan;

@@ -1,7 +1,7 @@
 use Rattle.std.proofs.Common.{◌∙◌, refl, arith}
-use Rattle.workers.specs.Serving.{IsBusy, appended}
+use Rattle.workers.specs.Serving.{IsBusy, appended, lines_by}
 use Rattle.workers.proofs.LineLaws.{lines-last}
-use Rattle.workers.proofs.Serving.{faults-after, served-not, served-then, tried-again, tried-answered}
+use Rattle.workers.proofs.Serving.{faults-after, served-lines, served-not, tried-again, tried-answered}
 use Rattle.workers.proofs.tries.until_free.Goals as goal
 
 pub loop-init : goal.loop-init
@@ -10,13 +10,14 @@ loop-init g c = record { served = served-not c.requires.fits; loan = refl; home 
 -- the last try appended what it may
 pub returns-then-not-is_busy-clause-served : goal.returns-then-not-is_busy-clause-served
 returns-then-not-is_busy-clause-served g c =
-    served-then 0 (appended c.make-answer.result) (g.A.Call.most c.args.call.now)
-    (let few = c.make-answer.ensures.few in omega (arith, few)) c.loop.invariant.served c.make-answer.ensures.served
+    served-lines (lines_by (g.A.Call.injector c.args.call.now)) 0 (appended c.make-answer.result) (g.A.Call.most c.args.call.now)
+    (let few = c.make-answer.ensures.few in omega (arith, few)) (λ part. omega arith) c.loop.invariant.served
+    c.make-answer.ensures.served
 
 -- and what it answers
 pub returns-then-not-is_busy-clause-answered : goal.returns-then-not-is_busy-clause-answered
 returns-then-not-is_busy-clause-answered g c =
-    tried-answered c.make-answer.result c.loop.invariant.served c.make-answer.ensures.served
+    tried-answered (lines_by (g.A.Call.injector c.args.call.now)) c.make-answer.result c.loop.invariant.served c.make-answer.ensures.served
 
 -- and failed for its cause
 pub returns-then-not-is_busy-clause-fault : goal.returns-then-not-is_busy-clause-fault

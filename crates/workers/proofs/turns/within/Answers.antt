@@ -1,8 +1,9 @@
 use Rattle.std.proofs.Common.{◌∙◌, ap, arith}
 use Rattle.book.specs.Desks.{Home}
+use Rattle.workers.specs.Serving.{lines_each}
 use Rattle.list_lemmas.proofs.Told.{on_ok-map}
 use Rattle.workers.proofs.LineLaws.{injected-behind}
-use Rattle.workers.proofs.Serving.{served-less, served-then}
+use Rattle.workers.proofs.Serving.{served-less, served-lines, served-more, served-then}
 use Rattle.workers.proofs.turns.within.Goals as goal
 
 -- the desk is not alone still
@@ -18,19 +19,22 @@ go_on-requires-clause-book g c = ap (λ (h : Home). h.book) (c.take_all.ensures.
 
 -- what was prepared was written, and what was held was sent
 pub returns-in_err-settle_up-clause-served : goal.returns-in_err-settle_up-clause-served
-returns-in_err-settle_up-clause-served g c = served-less 1 6000 (omega arith) c.settle_up.ensures.served
+returns-in_err-settle_up-clause-served g c = served-more (lines_each 16)
+    (served-less 1 6000 (omega arith) c.settle_up.ensures.served)
 
 -- messages were taken
 pub returns-in_err-unwritten-clause-served : goal.returns-in_err-unwritten-clause-served
-returns-in_err-unwritten-clause-served g c = served-then 1 3904 6000 (omega arith) c.settle_up.ensures.served c.take_all.ensures.served
+returns-in_err-unwritten-clause-served g c = served-more (lines_each 16)
+    (served-then 1 3904 6000 (omega arith) c.settle_up.ensures.served c.take_all.ensures.served)
 
 -- and the worker stalls
 pub returns-then-orders-clause-served : goal.returns-then-orders-clause-served
-returns-then-orders-clause-served g c = served-then 1 3904 6000 (omega arith) c.settle_up.ensures.served c.take_all.ensures.served
+returns-then-orders-clause-served g c = served-more (lines_each 16)
+    (served-then 1 3904 6000 (omega arith) c.settle_up.ensures.served c.take_all.ensures.served)
 
 -- or it went on
 pub returns-clause-served : goal.returns-clause-served
-returns-clause-served g c = served-then 3905 1720 6000 (omega arith)
+returns-clause-served g c = served-lines (lines_each 16) 3905 1720 6000 (omega arith) (λ part. omega arith)
     (served-then 1 3904 3905 (omega arith) c.settle_up.ensures.served c.take_all.ensures.served) c.go_on.ensures.served
 
 -- and injected lines
