@@ -32,11 +32,11 @@ use std::sync::Wait;
 /// intervals that is still to come. Of each computation up to 16 timers fire for each interval of
 /// it that it has; where none is due it reports these intervals, and goes on where one is due then.
 /// Of each injector that it has exactly 16 lines are injected, or all that are left. In each fourth
-/// round, what is pending is to be sent again, and up to 8 times a row of each interval that has 64
-/// ids or more forgets those of finished records. What it has to send is put into mailboxes, where
-/// a message is dropped that finds no room. Its own work is reported. Where another has the turn to
-/// append it tries again. A worker that stalls ends with the first record that it has handled,
-/// unwritten.
+/// round, what was pending at the fourth before already is to be sent again, and up to 8 times a row
+/// of each interval that has 64 ids or more forgets those of finished records. What it has to send
+/// is put into mailboxes, where a message is dropped that finds no room. Its own work is reported.
+/// Where another has the turn to append it waits a moment and tries again. A worker that stalls
+/// ends with the first record that it has handled, unwritten.
 ///
 /// It takes no interval, and appends at most 6,000 entries. It fails only where memory runs out,
 /// the keeper fails or the history is full; what it did before stands. The mailboxes are those of
