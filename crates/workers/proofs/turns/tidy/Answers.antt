@@ -8,13 +8,13 @@ pub returns-then-round-ne0-clause-served : goal.returns-then-round-ne0-clause-se
 returns-then-round-ne0-clause-served g c = served-less 0 488 (omega arith) (served-not c.requires.fits)
 
 -- memory ran out
-pub returns-in_err-sweep-clause-served : goal.returns-in_err-sweep-clause-served
-returns-in_err-sweep-clause-served g c = served-less 0 488 (omega arith)
-    (served-rest c.args.case.now (g.D.Desk.view c.args.desk.now) c.args.node.now c.sweep.new.self c.sweep.ensures.fits
-    c.sweep.ensures.rest)
+pub returns-in_err-sweep_older-clause-served : goal.returns-in_err-sweep_older-clause-served
+returns-in_err-sweep_older-clause-served g c = served-less 0 488 (omega arith)
+    (served-rest c.args.case.now (g.D.Desk.view c.args.desk.now) c.args.node.now c.sweep_older.new.self c.sweep_older.ensures.fits
+    c.sweep_older.ensures.rest)
 
 -- rows forgot ids
 pub returns-clause-served : goal.returns-clause-served
 returns-clause-served g c = served-then 0 488 488 (omega arith)
-    (served-rest c.args.case.now (g.D.Desk.view c.args.desk.now) c.args.node.now c.sweep.new.self c.sweep.ensures.fits
-    c.sweep.ensures.rest) c.purge_all.ensures.served
+    (served-rest c.args.case.now (g.D.Desk.view c.args.desk.now) c.args.node.now c.sweep_older.new.self c.sweep_older.ensures.fits
+    c.sweep_older.ensures.rest) c.purge_all.ensures.served
