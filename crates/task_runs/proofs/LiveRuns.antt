@@ -16,7 +16,7 @@ use Rattle.node.specs.declared.outcome.NodeFault.TheVariants as faults
 use Rattle.node.specs.declared.outcome.Outcome.{Outcome}
 use Rattle.world.specs.Acts.{world_after}
 use Rattle.world.specs.Keeping.{AppendsAtMostOne}
-use Rattle.world.specs.declared.step.Step.{Step}
+use Rattle.plans.specs.declared.step.Step.{Step}
 use Rattle.world.specs.ScriptRuns.{IsRunning}
 use Rattle.world.specs.Stepping.{HasActed}
 use Rattle.world.specs.WorldStates.{WorldState, world_of}

@@ -9,7 +9,7 @@ use Rattle.run_history.specs.Cases.{CaseShape}
 use Rattle.run_history.specs.Fences.{Begins}
 use Rattle.world.specs.Acts.{scripted_history, world_after}
 use Rattle.world.specs.Worlds.{World, empty_world}
-use Rattle.world.specs.declared.step.Step.{Step}
+use Rattle.plans.specs.declared.step.Step.{Step}
 use Rattle.world.specs.Drains.{IsDraining, HasEnded}
 use Rattle.world.specs.Replays.{GoesOn, IsReplayed, IsWholeReplay}
 

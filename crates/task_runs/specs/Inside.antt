@@ -20,7 +20,7 @@ use Rattle.world.specs.Turns.{HasFailed}
 use Rattle.world.specs.DrainTurns.{HasDrained, IsFullBefore}
 use Rattle.workers.specs.Rounds.{IsDamageAt, first_claims, rounds_room}
 use Rattle.node.specs.declared.outcome.Outcome.{Outcome}
-use Rattle.world.specs.declared.step.Step.{Step}
+use Rattle.plans.specs.declared.step.Step.{Step}
 use Rattle.world.specs.Stepping.{HasActed, HasFaulted}
 use Rattle.world.specs.WorldStates.{WorldState}
 use Rattle.book.specs.declared.refusals.StartWhy.{StartWhy}

@@ -9,7 +9,7 @@ ghost use Rattle.run_history.specs.Texts.{as_line, summary_data};
 ghost use Rattle.world.specs.Acts.{world_after};
 ghost use Rattle.world.specs.Keeping.{AppendsAtMostOne};
 ghost use Rattle.world.specs.Worlds.{empty_world};
-ghost use Rattle.world.specs.Steps.{IsStep};
+ghost use Rattle.plans.specs.Steps.{IsStep};
 ghost use Rattle.world.specs.Drains.{HasEnded, IsDraining};
 ghost use Rattle.world.specs.Turns.{HasGone, WhereTold};
 ghost use Rattle.world.specs.DrainTurns.{HasDrained};

@@ -11,7 +11,7 @@ ghost use Rattle.node.specs.Answers.{refusal_of};
 ghost use Rattle.node.specs.Works.{IsWorkOf};
 ghost use Rattle.world.specs.Worlds.{empty_world};
 ghost use Rattle.world.specs.Replays.{IsReplayed, IsWholeReplay};
-ghost use Rattle.world.specs.Steps.{IsStep};
+ghost use Rattle.plans.specs.Steps.{IsStep};
 ghost use Rattle.world.specs.WorldStates.{world_of};
 ghost use Rattle.task_runs.specs.Limits.{history_limit};
 ghost use Rattle.task_runs.specs.Answers.{Left, RunLeaves};

@@ -16,7 +16,7 @@ use Rattle.node.specs.declared.outcome.NodeFault.{NodeFault}
 use Rattle.node.specs.declared.outcome.Outcome.{Outcome}
 use Rattle.node.specs.declared.outcome.Outcome.TheVariants as outcomes
 use Rattle.world.specs.Worlds.{World}
-use Rattle.world.specs.declared.step.Step.TheVariants as steps
+use Rattle.plans.specs.declared.step.Step.TheVariants as steps
 use Rattle.world.specs.Standing.{FitsOwn}
 use Rattle.world.specs.WorkerCalls.{ActsOn, IsWorldAt}
 use Rattle.world.proofs.deeds.Acting.{IsActing}

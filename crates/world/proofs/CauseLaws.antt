@@ -27,8 +27,8 @@ use Rattle.outbox.specs.declared.outgoing.Outgoing.TheVariants as outgoing
 use Rattle.node.proofs.FitLaws.{held-interval}
 use Rattle.world.specs.Acts.{must_wait}
 use Rattle.world.specs.Worlds.{World, lease_of, lease_on, row_of_message, worker_of}
-use Rattle.world.specs.declared.step.Step.{Step}
-use Rattle.world.specs.declared.step.Step.TheVariants as steps
+use Rattle.plans.specs.declared.step.Step.{Step}
+use Rattle.plans.specs.declared.step.Step.TheVariants as steps
 use Rattle.world.proofs.CallLaws.{forget-own, settling-own}
 use Rattle.world.proofs.InjectLaws.{line-own}
 use Rattle.world.proofs.TurnLaws.{IsOwnRequest, lease-held, moved-before}

@@ -8,7 +8,7 @@ use Rattle.book.proofs.OwnLaws.{sound}
 use Rattle.node.specs.Workers.{NodeView, Worker, idle, worker_at}
 use Rattle.node.specs.declared.outcome.Outcome.TheVariants as outcomes
 use Rattle.node.proofs.FitLaws.{grown_looked, looked_not}
-use Rattle.world.specs.declared.step.Step.TheVariants as steps
+use Rattle.plans.specs.declared.step.Step.TheVariants as steps
 use Rattle.world.specs.Standing.{FitsOwn}
 use Rattle.world.specs.WorkerCalls.{HasCalled, HasLeases}
 

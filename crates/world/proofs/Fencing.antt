@@ -33,8 +33,8 @@ use Rattle.outbox.specs.declared.outgoing.Outgoing.TheVariants as outgoing
 use Rattle.world.specs.Acts.{Deed, copy_message, deed_of, done_unless, fire, fire_due, fire_effects, fire_under, has_numbers, inject, inject_item, inject_next, least_timer, lose_message, may_forget, must_wait, nothing, purge, purge_first, purge_row, report_own, report_under, send_all, sent_after, stale_in, stays, take, take_again, take_in, take_message, take_new, take_out, write, write_effects, write_prepared, write_under, writes, world_after, world_then}
 use Rattle.world.specs.Keeping.{AreClaimed}
 use Rattle.world.specs.Worlds.{World, in_flight, lease_of, lease_on, overtaken_by, row_known, row_of_message, rows_known, run_known, worker_of, world_on}
-use Rattle.world.specs.declared.step.Step.{Step}
-use Rattle.world.specs.declared.step.Step.TheVariants as steps
+use Rattle.plans.specs.declared.step.Step.{Step}
+use Rattle.plans.specs.declared.step.Step.TheVariants as steps
 use Rattle.world.proofs.Leases.{AreClaimed-first}
 use Rattle.world.proofs.OwnerLaws.{later-overtakes}
 use Rattle.world.proofs.Steps.{along_script, step-claimed}

@@ -18,7 +18,7 @@ use Rattle.node.specs.declared.outcome.Outcome.TheVariants as outcomes
 use Rattle.outbox.specs.declared.outgoing.Outgoing.{Outgoing}
 use Rattle.world.specs.Acts.{Deed, copy_message, done, has_numbers, lose_message, nothing, sent_after, stays, without_message}
 use Rattle.world.specs.Worlds.{World, in_flight}
-use Rattle.world.specs.declared.step.Step.TheVariants as steps
+use Rattle.plans.specs.declared.step.Step.TheVariants as steps
 use Rattle.world.specs.Standing.{IsFlying}
 use Rattle.world.specs.WorkerCalls.{FliesOn}
 use Rattle.world.specs.WorldStates.{flight_of}

@@ -33,8 +33,8 @@ use Rattle.outbox.specs.declared.outgoing.Outgoing.{Outgoing}
 use Rattle.outbox.specs.declared.outgoing.Outgoing.TheVariants as outgoing
 use Rattle.world.specs.Acts.{Acted, Deed, done, fire, inject, purge, without_message, write, writes}
 use Rattle.world.specs.Worlds.{World, worker_of}
-use Rattle.world.specs.declared.step.Step.{Step}
-use Rattle.world.specs.declared.step.Step.TheVariants as steps
+use Rattle.plans.specs.declared.step.Step.{Step}
+use Rattle.plans.specs.declared.step.Step.TheVariants as steps
 use Rattle.world.proofs.OwnerLaws.{done-current}
 use Rattle.world.specs.Standing.{FitsOwn, IsWorld}
 use Rattle.world.specs.Stepping.{AppendsOne, WouldAppend}

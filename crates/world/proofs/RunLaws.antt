@@ -11,8 +11,8 @@ use Rattle.node.specs.declared.outcome.Outcome.{Outcome}
 use Rattle.world.specs.Acts.{Acted, world_after, world_then}
 use Rattle.world.specs.Keeping.{AppendsAtMostOne}
 use Rattle.world.specs.Worlds.{World}
-use Rattle.world.specs.declared.step.Step.{Step}
-use Rattle.world.specs.declared.step.Step.TheVariants as steps
+use Rattle.plans.specs.declared.step.Step.{Step}
+use Rattle.plans.specs.declared.step.Step.TheVariants as steps
 use Rattle.world.proofs.Steps.{script-keeps}
 use Rattle.world.specs.ScriptRuns.{IsRunning}
 use Rattle.world.specs.Stepping.{HasActed, HasFaulted, WouldAppend}

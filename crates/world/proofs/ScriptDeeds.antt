@@ -28,8 +28,8 @@ use Rattle.outbox.specs.declared.outgoing.Outgoing.TheVariants as outgoing
 use Rattle.world.specs.Acts.{Deed, becomes, claim, copy, copy_message, crash, deed_of, fire, fire_due, fire_effects, fire_under, has_numbers, inject, inject_item, inject_next, least_timer, lose, lose_message, may_forget, must_wait, nothing, pending_known, purge, purge_first, purge_row, report, report_own, report_under, resend, send, send_all, sent_after, stays, take, take_again, take_in, take_message, take_new, take_out, write, write_effects, write_prepared, write_under, writes}
 use Rattle.world.specs.Keeping.{KeepsMessages}
 use Rattle.world.specs.Worlds.{World, in_flight, lease_of, lease_on, row_known, row_of_message, rows_known, run_known, worker_of}
-use Rattle.world.specs.declared.step.Step.{Step}
-use Rattle.world.specs.declared.step.Step.TheVariants as steps
+use Rattle.plans.specs.declared.step.Step.{Step}
+use Rattle.plans.specs.declared.step.Step.TheVariants as steps
 use Rattle.world.proofs.Leases.{LeasesAfter, LeasesFrom, LeasesFrom-claim}
 use Rattle.world.proofs.Messages.{KeepsMessages-append, KeepsMessages-itself, KeepsMessages-without}
 

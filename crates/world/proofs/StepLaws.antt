@@ -10,9 +10,9 @@ use Rattle.run_history.specs.Cases.{CaseShape}
 use Rattle.book.specs.Books.{core_of}
 use Rattle.book.specs.Lawful.{HoldsRowsOf, IsLawful}
 use Rattle.world.specs.Keeping.{AppendsAtMostOne}
-use Rattle.world.specs.Steps.{IsStep}
-use Rattle.world.specs.declared.step.Step.{Step}
-use Rattle.world.specs.declared.step.Step.TheVariants as steps
+use Rattle.plans.specs.Steps.{IsStep}
+use Rattle.plans.specs.declared.step.Step.{Step}
+use Rattle.plans.specs.declared.step.Step.TheVariants as steps
 use Rattle.world.specs.Stepping.{HasFaulted}
 use Rattle.world.specs.Turns.{with_own}
 use Rattle.world.specs.WorkerCalls.{HasGoneOn, IsAlone}

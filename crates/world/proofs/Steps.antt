@@ -13,7 +13,7 @@ use Rattle.node.specs.Workers.{Worker, with_lease}
 use Rattle.world.specs.Acts.{Deed, changed_by, deed_of, done_unless, lost, stale_in, with_sends, workers_with, world_after, world_then}
 use Rattle.world.specs.Keeping.{AppendsAtMostOne, AreClaimed, KeepsForm, KeepsMessages, KeepsWorld}
 use Rattle.world.specs.Worlds.{World, worker_of, world_on}
-use Rattle.world.specs.declared.step.Step.{Step}
+use Rattle.plans.specs.declared.step.Step.{Step}
 use Rattle.world.proofs.ScriptDeeds.{IsKeeping, keeps-step}
 use Rattle.world.proofs.Leases.{AreClaimed-first, AreClaimed-more, AreClaimed-set, LeasesAfter, LeasesFrom, lost-had, with_sends-leases}
 use Rattle.world.proofs.Messages.{KeepsMessages-itself, KeepsMessages-trans}

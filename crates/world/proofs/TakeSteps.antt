@@ -19,7 +19,7 @@ use Rattle.node.specs.declared.outcome.Outcome.TheVariants as outcomes
 use Rattle.outbox.specs.declared.outgoing.Outgoing.{Outgoing}
 use Rattle.world.specs.Acts.{act, done, must_wait, nothing, stays, take_message, take_out, without_message}
 use Rattle.world.specs.Worlds.{World, in_flight, lease_on, row_of_message, worker_of}
-use Rattle.world.specs.declared.step.Step.TheVariants as steps
+use Rattle.plans.specs.declared.step.Step.TheVariants as steps
 use Rattle.world.specs.Standing.{IsWorld}
 use Rattle.world.specs.Stepping.{HasActed, HasFaulted}
 use Rattle.world.specs.WorkerCalls.{HasCalled, HasRested, TakesOn, answered_in_place, world_with}

@@ -18,7 +18,7 @@ use Rattle.node.specs.Works.{IsWorkOf}
 use Rattle.node.specs.declared.message.Message.{Message}
 use Rattle.node.specs.declared.outcome.Outcome.{Outcome}
 use Rattle.world.specs.Worlds.{World}
-use Rattle.world.specs.declared.step.Step.{Step}
+use Rattle.plans.specs.declared.step.Step.{Step}
 use Rattle.world.specs.Standing.{FitsOwn, IsWorld}
 use Rattle.world.specs.Stepping.{HasActed}
 use Rattle.world.specs.WorkerCalls.{ActsOn, HasCalled, HasGoneOn, HasRested, IsWorldAt, world_with}

@@ -33,8 +33,8 @@ use Rattle.node.specs.declared.outcome.Outcome.TheVariants as outcomes
 use Rattle.outbox.specs.declared.outgoing.Outgoing.{Outgoing}
 use Rattle.outbox.specs.declared.outgoing.Outgoing.TheVariants as outgoing
 use Rattle.world.specs.Worlds.{World, empty_world, in_flight, lease_of, lease_on, overtaken_by, row_known, row_of_message, rows_known, rows_of_worker, run_known, worker_of}
-use Rattle.world.specs.declared.step.Step.{Step}
-use Rattle.world.specs.declared.step.Step.TheVariants as steps
+use Rattle.plans.specs.declared.step.Step.{Step}
+use Rattle.plans.specs.declared.step.Step.TheVariants as steps
 
 -- what a step comes to: its answer; the lease under which it is done, if it is done under one; the worker
 -- that does it, and what that worker is then, if it changes; the entry that it writes, if it writes one; and

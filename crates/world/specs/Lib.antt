@@ -3,9 +3,6 @@ pub mod ReportRounds
 pub mod DrainTurns
 pub mod Turns
 pub mod Standings
-pub mod Schedules
-pub mod ScheduleExamples
-pub mod Steps
 pub mod Worlds
 pub mod Acts
 pub mod Keeping

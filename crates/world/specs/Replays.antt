@@ -4,7 +4,7 @@ use Rattle.mw_types.specs.declared.entry.Entry.{Entry}
 use Rattle.run_history.specs.Cases.{CaseShape}
 use Rattle.run_history.specs.Fences.{Begins}
 use Rattle.world.specs.Acts.{scripted_history}
-use Rattle.world.specs.declared.step.Step.{Step}
+use Rattle.plans.specs.declared.step.Step.{Step}
 use Rattle.world.specs.Drains.{IsDrained, IsDraining}
 
 -- a history goes on from another as a drain does

@@ -3,7 +3,7 @@ use Rattle.std.specs.Prelude.{◌≡◌, ◌≤◌, List, IsSome}
 use Rattle.std.specs.Option.{is_some}
 use Rattle.run_history.specs.Fences.{Begins}
 use Rattle.world.specs.Acts.{world_after}
-use Rattle.world.specs.declared.step.Step.{Step}
+use Rattle.plans.specs.declared.step.Step.{Step}
 use Rattle.world.specs.WorldStates.{WorldState, world_of}
 
 -- a script was begun in one world, and in another it has these steps left: where told they lead to where the

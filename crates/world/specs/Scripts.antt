@@ -12,8 +12,8 @@ use Rattle.outbox.specs.declared.outgoing.Outgoing.{Outgoing}
 use Rattle.outbox.specs.declared.outgoing.Outgoing.TheVariants as outgoing
 use Rattle.world.specs.Acts.{answers, scripted_history, world_after}
 use Rattle.world.specs.Worlds.{empty_world}
-use Rattle.world.specs.declared.step.Step.{Step}
-use Rattle.world.specs.declared.step.Step.TheVariants.{Claim, Crash, Fire, Inject, Lose, Purge, Repeat, Report, Resend, Send, Take, Write}
+use Rattle.plans.specs.declared.step.Step.{Step}
+use Rattle.plans.specs.declared.step.Step.TheVariants.{Claim, Crash, Fire, Inject, Lose, Purge, Repeat, Report, Resend, Send, Take, Write}
 
 -- a script, each step with the answer that was worked out for it
 abbrev pub Worked : Type 0

@@ -10,8 +10,8 @@ use Rattle.node.specs.declared.outcome.Outcome.{Outcome}
 use Rattle.node.specs.declared.outcome.Outcome.TheVariants as outcomes
 use Rattle.world.specs.Acts.{act, without_message}
 use Rattle.world.specs.Worlds.{World, lease_of, worker_of}
-use Rattle.world.specs.declared.step.Step.{Step}
-use Rattle.world.specs.declared.step.Step.TheVariants as steps
+use Rattle.plans.specs.declared.step.Step.{Step}
+use Rattle.plans.specs.declared.step.Step.TheVariants as steps
 use Rattle.world.specs.WorldStates.{WorldState, world_of}
 
 -- a step was answered as it is in the scripted world, and the world is that one then, where a contract can

@@ -19,8 +19,8 @@ use Rattle.node.specs.declared.outcome.Outcome.TheVariants as outcomes
 use Rattle.outbox.specs.declared.outgoing.Outgoing.{Outgoing}
 use Rattle.world.specs.Acts.{act, must_wait, without_message}
 use Rattle.world.specs.Worlds.{World, in_flight, lease_on, row_of_message}
-use Rattle.world.specs.declared.step.Step.{Step}
-use Rattle.world.specs.declared.step.Step.TheVariants as steps
+use Rattle.plans.specs.declared.step.Step.{Step}
+use Rattle.plans.specs.declared.step.Step.TheVariants as steps
 use Rattle.world.specs.Standing.{FitsOwn}
 use Rattle.world.specs.Stepping.{AppendsOne, WouldAppend}
 use Rattle.world.specs.Turns.{HasStepped}

@@ -12,7 +12,7 @@ ghost use Rattle.world.specs.Stepping.{NamesNone};
 ghost use Rattle.world.specs.WorkerCalls.{FliesOn, HasCalled, IsSending, SendsOn};
 ghost use Rattle.world.specs.WorldStates.{flight_of};
 
-use crate::step::Step;
+use plans::Step;
 use book::{Book, NoNote, OwnDesk};
 use mw_types::{Duplicate, NoMemory};
 use node::{Message, Node, NodeFault, Outcome, Parcel, Receipt};

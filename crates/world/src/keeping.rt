@@ -14,7 +14,7 @@ ghost use Rattle.world.specs.Keeping.{
   KeepsMessages,
 };
 ghost use Rattle.world.specs.Worlds.{World, in_flight, world_on};
-ghost use Rattle.world.specs.declared.step.Step.{Step};
+ghost use Rattle.plans.specs.declared.step.Step.{Step};
 
 /// A step appends at most one entry to the history, and keeps what was there.
 pub fn steps_append_at_most_one_entry()

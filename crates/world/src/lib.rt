@@ -1,22 +1,22 @@
-//! Schedules and drains: the scripted world, in which sixteen workers claim, crash, send, take and write, and
+//! Scripts and drains: the scripted world, in which sixteen workers claim, crash, send, take and write, and
 //! messages come twice or are lost, in any order; the world that does the steps of a script for real; and the
 //! order in which one thread works off what is left.
 //!
-//! A script is a list of steps, which a schedule gives one a line. A drain claims each interval, and then
-//! writes the one entry that its rules name, until none is left to write. Each law of scripts, of drains and
-//! of rounds of reports is the contract of a function with an empty body. Stands on `node` and the crates
-//! below it. Public contract: a schedule is read exactly, or its first line that is no step is named; where a
-//! contract can see the keeper's rows a step of a `World` answers what the scripted world does, and leaves
-//! that world, and over every keeper it appends at most one entry, and an answer that names a number has its
-//! cause; each history that a script writes is fenced, and a copy of a record is a duplicate exactly where its
-//! record was handled; `drain` returns over every keeper, and where a contract can see the keeper's rows it
-//! writes exactly the entries of its order, each by a `drain_turn`, and after Ok none is left.
+//! A script is a list of steps, which a schedule of `plans` gives one a line. A drain claims each interval,
+//! and then writes the one entry that its rules name, until none is left to write. Each law of scripts, of
+//! drains and of rounds of reports is the contract of a function with an empty body. Stands on `node`, on
+//! `plans` and on the crates below them. Public contract: where a contract can see the keeper's rows a step of
+//! a `World` answers what the scripted world does, and leaves that world, and over every keeper it appends at
+//! most one entry, and an answer that names a number has its cause; each history that a script writes is
+//! fenced, and a copy of a record is a duplicate exactly where its record was handled; `drain` returns over
+//! every keeper, and where a contract can see the keeper's rows it writes exactly the entries of its order,
+//! each by a `drain_turn`, and after Ok none is left.
 //! Definitions: `specs/Worlds.antt` and `specs/Acts.antt`, what the scripted world is and what a step does;
 //! `specs/Keeping.antt` and `specs/Copies.antt`, what the laws say; `specs/Scripts.antt`, the worked scripts;
-//! `specs/Schedules.antt`, what a schedule says; `specs/Drains.antt`, what a drain writes;
-//! `specs/DrainTurns.antt`, when one is under way; `specs/ReportRounds.antt`, a round of reports;
-//! `specs/WorldStates.antt`, `specs/Stepping.antt` and `specs/Replays.antt`, what it means that steps are done
-//! for real; `specs/WorldDrains.antt`, when a drain of a world is under way.
+//! `specs/Drains.antt`, what a drain writes; `specs/DrainTurns.antt`, when one is under way;
+//! `specs/ReportRounds.antt`, a round of reports; `specs/WorldStates.antt`, `specs/Stepping.antt` and
+//! `specs/Replays.antt`, what it means that steps are done for real; `specs/WorldDrains.antt`, when a drain of
+//! a world is under way.
 #![tactic(auto)]
 
 mod claiming;
@@ -35,12 +35,8 @@ mod least_work;
 mod owners;
 mod purging;
 mod report_rounds;
-mod schedule;
-mod schedule_cases;
 mod script_runs;
 mod standing;
-mod step;
-mod step_lines;
 mod turns;
 mod worker_calls;
 mod world;
@@ -67,9 +63,7 @@ pub use keeping::{
     steps_append_at_most_one_entry, steps_keep_workers_and_marks,
 };
 pub use owners::{overtaken_owners_are_refused, scripted_histories_are_fenced};
+pub use plans::{Schedule, Step, read_schedule, schedule_examples};
 pub use report_rounds::{a_round_finds_low_watermarks, a_round_leaves_the_greatest_safe_marks};
-pub use schedule::{Schedule, read_schedule};
-pub use schedule_cases::schedule_examples;
 pub use script_runs::run_script;
-pub use step::Step;
 pub use world::{World, WorldRefusal};

@@ -9,7 +9,7 @@ ghost use Rattle.book.specs.Books.{LeaseView};
 ghost use Rattle.node.specs.declared.outcome.Outcome.TheVariants as outcomes;
 ghost use Rattle.world.specs.Acts.{Deed, changed_by, done, lost, world_after};
 ghost use Rattle.world.specs.Worlds.{World, world_on};
-ghost use Rattle.world.specs.declared.step.Step.{Step};
+ghost use Rattle.plans.specs.declared.step.Step.{Step};
 
 /// What is done under a lease is done where the lease is the last of its interval.
 ///

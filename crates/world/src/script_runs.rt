@@ -7,10 +7,10 @@ ghost use Rattle.book.specs.DeskReasons.{IsDamageOf};
 ghost use Rattle.book.specs.OwnDesks.{own_view};
 ghost use Rattle.node.specs.Answers.{refusal_of};
 ghost use Rattle.world.specs.Acts.{world_after};
-ghost use Rattle.world.specs.Steps.{IsStep};
+ghost use Rattle.plans.specs.Steps.{IsStep};
 ghost use Rattle.world.specs.WorldStates.{world_of};
 
-use crate::step::Step;
+use plans::Step;
 use crate::world::World;
 use computations::Computation;
 use node::NodeFault;

@@ -9,7 +9,7 @@ ghost use Rattle.world.specs.Turns.{HasFailed};
 ghost use Rattle.world.specs.Stepping.{IsCausedBy};
 ghost use Rattle.world.specs.WorkerCalls.{ActsOn, HasCalled, HasRested, IsFullOn};
 
-use crate::step::Step;
+use plans::Step;
 use book::{Book, Desk, NoNote, OwnDesk};
 use computations::Computation;
 use node::{Node, NodeFault, Outcome};

@@ -8,7 +8,7 @@ ghost use Rattle.node.specs.Answers.{refusal_of};
 ghost use Rattle.node.specs.Workers.{worker_at};
 ghost use Rattle.node.specs.Works.{IsWorkOf};
 ghost use Rattle.world.specs.Keeping.{AppendsAtMostOne};
-ghost use Rattle.world.specs.Steps.{IsStep};
+ghost use Rattle.plans.specs.Steps.{IsStep};
 ghost use Rattle.world.specs.Standing.{FitsOwn};
 ghost use Rattle.world.specs.Stepping.{HasActed, HasCauseOf, HasFaulted, IsCausedBy, WouldAppend};
 ghost use Rattle.world.specs.Turns.{HasFailed};
@@ -17,7 +17,7 @@ ghost use Rattle.world.specs.WorldStates.{world_of};
 
 use crate::deliveries::{answered_in_place, receive};
 use crate::flights::{find, lose, repeat, send, take_out};
-use crate::step::Step;
+use plans::Step;
 use crate::worker_calls::{claim, fire, inject, purge, report, resend, write};
 use crate::world::World;
 use book::{Book, NoNote};

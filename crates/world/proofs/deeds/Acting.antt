@@ -10,8 +10,8 @@ use Rattle.node.specs.Workers.{NodeView, idle, worker_at}
 use Rattle.node.specs.declared.outcome.Outcome.{Outcome}
 use Rattle.world.specs.Acts.{act, without_message}
 use Rattle.world.specs.Worlds.{World, worker_of}
-use Rattle.world.specs.declared.step.Step.{Step}
-use Rattle.world.specs.declared.step.Step.TheVariants as steps
+use Rattle.plans.specs.declared.step.Step.{Step}
+use Rattle.plans.specs.declared.step.Step.TheVariants as steps
 
 -- a worker of a scripted world is about to act over a book that its desk has to itself, which tells
 pub record IsActing (case : CaseShape) (old : BookView) (world : World) (number : ℕ) (was : NodeView) : Type 0 where

@@ -26,7 +26,7 @@ use Rattle.node.specs.Workers.{NodeView, Sending, Worker, sending_of, where_pass
 use Rattle.node.specs.declared.outcome.Outcome.{Outcome}
 use Rattle.world.specs.Acts.{Deed, fire, fire_due, fire_effects, fire_under, least_timer, nothing, timers_known, writes}
 use Rattle.world.specs.Worlds.{World, lease_on, worker_of}
-use Rattle.world.specs.declared.step.Step.TheVariants as steps
+use Rattle.plans.specs.declared.step.Step.TheVariants as steps
 use Rattle.world.proofs.Firsts.{tied_both_ways}
 use Rattle.world.proofs.deeds.Acting.{Acts, IsActing, acting-worker}
 use Rattle.world.proofs.deeds.Held.{lease_held, lease_on-held, row-held}

@@ -27,7 +27,7 @@ use Rattle.node.specs.Workers.{NodeView, Sending, Worker, sending_of}
 use Rattle.node.specs.declared.outcome.Outcome.{Outcome}
 use Rattle.world.specs.Acts.{Deed, may_forget, nothing, purge, purge_first, purge_row, writes}
 use Rattle.world.specs.Worlds.{World, rows_known, worker_of}
-use Rattle.world.specs.declared.step.Step.TheVariants as steps
+use Rattle.plans.specs.declared.step.Step.TheVariants as steps
 use Rattle.world.proofs.deeds.Acting.{Acts, IsActing, acting-worker}
 use Rattle.world.proofs.deeds.Held.{lease_held, lease_of-held}
 use Rattle.world.proofs.deeds.KnownRows.{in-known, known-in, known-sorted, row-there, there-unless-fresh}

@@ -23,7 +23,7 @@ use Rattle.node.specs.declared.outcome.Outcome.{Outcome}
 use Rattle.node.specs.declared.outcome.Outcome.TheVariants as outcomes
 use Rattle.world.specs.Acts.{changed_by, done, nothing, report, report_own, report_under}
 use Rattle.world.specs.Worlds.{World, run_known}
-use Rattle.world.specs.declared.step.Step.TheVariants as steps
+use Rattle.plans.specs.declared.step.Step.TheVariants as steps
 use Rattle.world.proofs.OwnerLaws.{done-current}
 use Rattle.world.proofs.deeds.Acting.{Acts, IsActing, acting-worker, tells}
 use Rattle.world.proofs.deeds.Held.{lease_held, lease_of-held}

@@ -32,7 +32,7 @@ use Rattle.node.specs.declared.outcome.Outcome.TheVariants as outcomes
 use Rattle.node.proofs.SweepLaws.{sent-so}
 use Rattle.world.specs.Acts.{is_pending_in, is_pending_on, pending_known, sender_known}
 use Rattle.world.specs.Worlds.{World, row_known, worker_of}
-use Rattle.world.specs.declared.step.Step.TheVariants as steps
+use Rattle.plans.specs.declared.step.Step.TheVariants as steps
 use Rattle.world.proofs.deeds.Acting.{Acts, IsActing, acting-worker, tells}
 use Rattle.world.proofs.deeds.Ascending.{same-ascending}
 use Rattle.world.proofs.deeds.Held.{held-lies, lease_held, lease_on-held, row-held}

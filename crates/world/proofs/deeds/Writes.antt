@@ -21,7 +21,7 @@ use Rattle.node.specs.Workers.{NodeView, Sending, WorkView, Worker, sending_in, 
 use Rattle.node.specs.declared.outcome.Outcome.{Outcome}
 use Rattle.world.specs.Acts.{Deed, done, nothing, write, writes}
 use Rattle.world.specs.Worlds.{World, lease_on, row_known}
-use Rattle.world.specs.declared.step.Step.TheVariants as steps
+use Rattle.plans.specs.declared.step.Step.TheVariants as steps
 use Rattle.world.proofs.deeds.Acting.{Acts, IsActing, acting-worker}
 use Rattle.world.proofs.deeds.Held.{lease_held, lease_on-held, row-held}
 use Rattle.world.proofs.deeds.Left.{IsOnRow, acting-alone, acting-of, asked-kept, deed_asked}

@@ -1,7 +1,7 @@
 use Rattle.std.proofs.Common.{◌≡◌, ◌∙◌, ◌+◌, ◌^◌, true, length, ap, subst, sym, rules}
 use Rattle.std.specs.Prelude.{None, Some, All, nat_le, slice_get, unwrap_or}
 use Rattle.node.specs.declared.outcome.Outcome.TheVariants as outcomes
-use Rattle.world.specs.declared.step.Step.TheVariants as steps
+use Rattle.plans.specs.declared.step.Step.TheVariants as steps
 use Rattle.world.specs.Standing.{IsFlying}
 use Rattle.world.specs.WorkerCalls.{FliesOn}
 use Rattle.world.specs.WorldStates.{flight_of}

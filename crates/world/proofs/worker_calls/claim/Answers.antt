@@ -6,7 +6,7 @@ use Rattle.node.specs.Workers.{worker_at}
 use Rattle.world.specs.Stepping.{IsCausedBy}
 use Rattle.world.proofs.Results.{err-then, ok-then}
 use Rattle.world.proofs.CauseLaws.{claim-cause}
-use Rattle.world.specs.declared.step.Step.TheVariants as steps
+use Rattle.plans.specs.declared.step.Step.TheVariants as steps
 use Rattle.world.proofs.FullSteps.{claim-full}
 use Rattle.world.proofs.worker_calls.claim.Goals as goal
 

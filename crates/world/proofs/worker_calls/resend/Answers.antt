@@ -3,7 +3,7 @@ use Rattle.std.specs.Prelude.{IfErr, IfOk}
 use Rattle.book.specs.OwnDesks.{own_view}
 use Rattle.node.specs.Workers.{NodeView, leases_of, worker_at}
 use Rattle.node.proofs.FitLaws.{grown_looked, looked_not}
-use Rattle.world.specs.declared.step.Step.TheVariants as steps
+use Rattle.plans.specs.declared.step.Step.TheVariants as steps
 use Rattle.world.specs.WorkerCalls.{ActsOn, HasCalled, IsFullOn}
 use Rattle.world.proofs.ActsOnLaws.{resend-on}
 use Rattle.world.proofs.Results.{err-then, ok-then}

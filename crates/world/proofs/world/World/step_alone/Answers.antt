@@ -1,6 +1,6 @@
 use Rattle.std.proofs.Common.{◌≡◌, subst, sym}
 use Rattle.std.specs.Prelude.{IfErr, IfOk, OnErr}
-use Rattle.world.specs.Steps.{IsStep}
+use Rattle.plans.specs.Steps.{IsStep}
 use Rattle.world.specs.Stepping.{HasActed, IsCausedBy, worker_of_step}
 use Rattle.world.specs.WorkerCalls.{IsAlone, IsFullStep}
 use Rattle.world.specs.WorldStates.{WorldState, world_of}

@@ -7,7 +7,7 @@ use Rattle.outbox.specs.Messages.{IsAddressed}
 use Rattle.node.specs.Received.{outgoing_of}
 use Rattle.node.specs.Workers.{worker_at}
 use Rattle.node.specs.declared.outcome.Outcome.TheVariants as outcomes
-use Rattle.world.specs.declared.step.Step.TheVariants as steps
+use Rattle.plans.specs.declared.step.Step.TheVariants as steps
 use Rattle.world.specs.Standing.{IsWorld}
 use Rattle.world.specs.Stepping.{HasActed, HasFaulted, IsCausedBy}
 use Rattle.world.specs.WorkerCalls.{IsFullStep, answered_in_place}

@@ -1,5 +1,5 @@
 use Rattle.std.proofs.Common.{refl}
-use Rattle.world.proofs.schedule_cases.schedule_examples.Goals as goal
+use Rattle.plans.proofs.schedule_cases.schedule_examples.Goals as goal
 
 pub returns-clause-uneven : goal.returns-clause-uneven
 returns-clause-uneven c = refl

@@ -1,6 +1,6 @@
 //! Examples that were worked out by hand, which the definition of schedules must meet.
 ghost use Rattle.std.specs.Prelude.{◌≡◌, codes};
-ghost use Rattle.world.specs.ScheduleExamples.{said_by, refused_at, uneven_schedule, uneven_steps, full_schedule, full_steps};
+ghost use Rattle.plans.specs.ScheduleExamples.{said_by, refused_at, uneven_schedule, uneven_steps, full_schedule, full_steps};
 
 /// What schedules of the first example's case say, and the lines for which others are refused.
 pub fn schedule_examples()

@@ -1,11 +1,12 @@
 //! The step that a line of a schedule names.
 ghost use Rattle.std.specs.Prelude.{◌≡◌, ◌≤◌, ◌<◌, ◌^◌, IfSome};
-ghost use Rattle.topology.specs.Rules.{interval_count};
 ghost use Rattle.topology.specs.Shapes.{injectors_of, parts_of};
 ghost use Rattle.text_lines.specs.Words.{word_of};
-ghost use Rattle.world.specs.Steps.{IsStep};
-ghost use Rattle.world.specs.Schedules.{worker_in, message_in, interval_in, injector_in, computation_in, step_of_one, step_of_two, step_of_numbers, step_of};
+ghost use Rattle.plans.specs.Steps.{IsStep};
+ghost use Rattle.plans.specs.Named.{interval_in};
+ghost use Rattle.plans.specs.Schedules.{worker_in, message_in, injector_in, computation_in, step_of_one, step_of_two, step_of_numbers, step_of};
 
+use crate::named::interval_in;
 use crate::step::Step;
 use run_history::Case;
 use text_lines::{LineReader, below, between, first_word};
@@ -42,14 +43,6 @@ fn message_in(word: &[u8]) -> Option<u32>
     ensures range { IfSome result (λ n. n < 2 ^ 32) }
 {
     below(1 << 32, word)
-}
-
-// The interval that a word names.
-fn interval_in(case: &Case, word: &[u8]) -> Option<u32>
-    ensures number { result ≡ interval_in case.now.topology word.now }
-    ensures range { IfSome result (λ n. n < interval_count case.now.topology) }
-{
-    below(u64::from(case.intervals().count()), word)
 }
 
 // The injector that a word names.

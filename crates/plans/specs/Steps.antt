@@ -2,8 +2,8 @@
 use Rattle.std.specs.Prelude.{◌<◌, ◌≤◌, ◌^◌}
 use Rattle.topology.specs.Shapes.{Shape, injectors_of, parts_of}
 use Rattle.topology.specs.Rules.{interval_count}
-use Rattle.world.specs.declared.step.Step.{Step}
-use Rattle.world.specs.declared.step.Step.TheVariants as steps
+use Rattle.plans.specs.declared.step.Step.{Step}
+use Rattle.plans.specs.declared.step.Step.TheVariants as steps
 
 -- a step is one of a topology: its worker and interval are there, its part is an injector where it
 -- injects and a computation where it fires, and its message is below 2^32

@@ -5,10 +5,10 @@ use Rattle.text_lines.specs.Numbers.{below, between}
 use Rattle.text_lines.specs.Readings.{lines_read}
 use Rattle.text_lines.specs.Words.{both, is_word, word_of}
 use Rattle.topology.specs.Shapes.{Shape, injectors_of, parts_of}
-use Rattle.topology.specs.Rules.{interval_count}
 use Rattle.mw_types.specs.declared.refusal.PlanRefusal.{PlanRefusal}
-use Rattle.world.specs.declared.step.Step.{Step}
-use Rattle.world.specs.declared.step.Step.TheVariants as steps
+use Rattle.plans.specs.Named.{interval_in}
+use Rattle.plans.specs.declared.step.Step.{Step}
+use Rattle.plans.specs.declared.step.Step.TheVariants as steps
 
 -- the worker that a word names: there are sixteen
 abbrev pub worker_in : List ℕ → Option ℕ
@@ -17,10 +17,6 @@ worker_in word = below 16 word
 -- the message that a word names
 abbrev pub message_in : List ℕ → Option ℕ
 message_in word = below (2 ^ 32) word
-
--- the interval that a word names
-abbrev pub interval_in : Shape → List ℕ → Option ℕ
-interval_in shape word = below (interval_count shape) word
 
 -- the injector that a word names
 abbrev pub injector_in : Shape → List ℕ → Option ℕ

@@ -1,8 +1,8 @@
 //! A schedule, and how it is read.
 ghost use Rattle.std.specs.Prelude.{All, ◌≡◌, ◌<◌, ◌^◌, length, IfErr, IfOk, Ok};
 ghost use Rattle.json_reading.specs.Refusals.{IsRefusalOf};
-ghost use Rattle.world.specs.Steps.{IsStep};
-ghost use Rattle.world.specs.Schedules.{schedule_of};
+ghost use Rattle.plans.specs.Steps.{IsStep};
+ghost use Rattle.plans.specs.Schedules.{schedule_of};
 
 use crate::step::Step;
 use crate::step_lines::StepReader;
@@ -20,7 +20,7 @@ pub struct Schedule {
 
 impl Model for Schedule {
     ghost use Rattle.std.specs.Prelude.{List};
-    ghost use Rattle.world.specs.declared.step.Step.{Step};
+    ghost use Rattle.plans.specs.declared.step.Step.{Step};
 
     ghost Value = { List Step };
 
