@@ -7,7 +7,7 @@ use Rattle.run_history.specs.Fences.{Begins}
 use Rattle.history_laws.specs.Writes.{IsLegalAndFenced}
 use Rattle.plans.specs.declared.step.Step.{Step}
 use Rattle.workers.specs.Rounds.{HasInjectedAll, claims_in, first_claims, rounds_room}
-use Rattle.world.specs.Drains.{HasEnded, IsDrained}
+use Rattle.world.specs.drains.Drains.{HasEnded, IsDrained}
 use Rattle.world.specs.Replays.{GoesOn, IsReplayed, IsWholeReplay}
 use Rattle.task_runs.specs.declared.task.Before.{Before}
 use Rattle.task_runs.specs.declared.task.Before.TheVariants.{Steps, Rounds}

@@ -12,8 +12,8 @@ use Rattle.run_history.specs.Runs.{run_of}
 use Rattle.run_history.specs.Texts.{as_line, summary_data}
 use Rattle.live_outlet.specs.Covering.{StandIn, ended, results_of, told_by}
 use Rattle.live_outlet.specs.Outlets.{IsPumpedFrom, OutletView, emitted_by}
-use Rattle.world.specs.Acts.{world_then}
-use Rattle.world.specs.Worlds.{World, empty_world}
+use Rattle.world.specs.scripts.Acts.{world_then}
+use Rattle.world.specs.scripts.Worlds.{World, empty_world}
 use Rattle.plans.specs.declared.step.Step.{Step}
 use Rattle.plans.specs.declared.step.Step.TheVariants as steps
 
