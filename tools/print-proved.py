@@ -346,11 +346,22 @@ DEFINED = re.compile(r"^(?:\w+ )*?pub (?:record |data )?([^\s:({]+)")
 
 
 def modules(crate):
-    """The modules of a crate's specs/ with their lines, in the order of reading."""
+    """The modules of a crate's specs/, by their paths, with their lines, in the order of reading."""
     at = f"{ROOT}/crates/{crate}/specs"
-    listed = lines_of(f"{at}/Lib.antt") if os.path.isfile(f"{at}/Lib.antt") else []
-    names = [one[1] for one in (re.match(r"pub mod (\w+)", line) for line in listed) if one]
-    return [(name, lines_of(f"{at}/{name}.antt")) for name in names if os.path.isfile(f"{at}/{name}.antt")]
+    return listed_in(at, "", lines_of(f"{at}/Lib.antt")) if os.path.isfile(f"{at}/Lib.antt") else []
+
+
+def listed_in(at, folder, listed):
+    """The modules that a list of a folder names; in place of one that is a list, those that it names."""
+    found = []
+    for name in [one[1] for one in (re.match(r"pub mod (\w+)", line) for line in listed) if one]:
+        path = folder + name
+        lines = lines_of(f"{at}/{path}.antt") if os.path.isfile(f"{at}/{path}.antt") else []
+        if os.path.isdir(f"{at}/{path}"):
+            found += listed_in(at, f"{path}/", lines)
+        elif lines:
+            found.append((path, lines))
+    return found
 
 
 def definitions(lines):
@@ -364,10 +375,10 @@ def definitions(lines):
 def imported(lines):
     """Which module of which crate each name comes from that these lines take in."""
     found = {}
-    for one in re.finditer(r"^\s*(?:ghost )?use Rattle\.(\w+)\.specs\.(\w+)\.\{([^}]*)\}", "\n".join(lines), re.M):
+    for one in re.finditer(r"^\s*(?:ghost )?use Rattle\.(\w+)\.specs\.([\w.]+)\.\{([^}]*)\}", "\n".join(lines), re.M):
         for name in one[3].split(","):
             first, last = name.split(" as ")[0].strip(), name.split(" as ")[-1].strip()
-            found[last] = (one[1], one[2], first)
+            found[last] = (one[1], one[2].replace(".", "/"), first)
     return found
 
 

@@ -10,7 +10,7 @@ use Rattle.mw_ports.specs.Shelves.{Files}
 use Rattle.topology.specs.Shapes.{Shape}
 use Rattle.injector.specs.Sources.{Source}
 use Rattle.run_history.specs.Cases.{CaseShape}
-use Rattle.world.specs.Schedules.{schedule_of}
+use Rattle.plans.specs.Schedules.{schedule_of}
 use Rattle.plans.specs.Plans.{actions_of}
 use Rattle.task_runs.specs.declared.status.Status.{Status}
 use Rattle.task_runs.specs.declared.status.Status.TheVariants.{PlanRefused, NoMemory}

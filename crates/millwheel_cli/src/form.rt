@@ -10,12 +10,11 @@ ghost use Rattle.millwheel_cli.specs.Inside.{of_lines, UnlessWant};
 use crate::refusal::Refusal;
 use injector::{Items, ItemsList, LinesRefusal, read_lines};
 use mw_types::{NoMemory, PlanRefusal, Seq};
-use plans::{Actions, read_actions};
+use plans::{Actions, Schedule, read_actions, read_schedule};
 use run_history::Case;
 use std::alloc::Global;
 use task_runs::Before;
 use topology::{Topology, read};
-use world::{Schedule, read_schedule};
 
 /// The topology that these bytes are taken for, which has an injector for each event file.
 pub fn topology_of(alloc: Global, count: u32, bytes: &[u8]) -> Result<Topology, Refusal>

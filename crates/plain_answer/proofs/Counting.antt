@@ -92,14 +92,11 @@ apart-false name row apart = elim (is_at (row_cmp name) row) as (λ b. is_at (ro
 
 -- an entry that is not on a row does nothing there
 pub deeds-apart : (name : RowName) (run : Run) (entry : Entry) → (row_written entry ≡ Some name → ⊥) → deeds_in name run entry ≡ []
-deeds-apart name run (Claim worker interval) apart = refl
-deeds-apart name run (Inject seq part line item) apart = refl
 deeds-apart name run (Handle seq row id effects) apart =
     ap (λ b. cond b (taken (found_delivery id run.unhandled)) []) (apart-false name row apart)
 deeds-apart name run (Fire seq row timer mark effects) apart =
     ap (λ b. cond b (cond (timer.tag == 0) (fired timer.time ∷ []) []) []) (apart-false name row apart)
-deeds-apart name run (Ack seq row id) apart = refl
-deeds-apart name run (Purge seq row floor) apart = refl
+deeds-apart name run _ apart = refl
 
 module _ (case : CaseShape) (name : RowName) (size : ℕ) (kind : kind_of case.topology name.part ≡ Some (kinds.Count size)) where
   abbrev shape : Shape

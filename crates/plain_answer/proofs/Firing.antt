@@ -3,7 +3,7 @@ use Rattle.std.proofs.Common.{◌≡◌, ℕ, ◌==◌, Bool, true, false, cond,
 use Rattle.mw_types.specs.declared.kind.Kind.TheVariants as kinds
 use Rattle.mw_types.specs.declared.state.Window.{Window}
 use Rattle.mw_types.specs.declared.entry.Entry.{Entry}
-use Rattle.mw_types.specs.declared.entry.Entry.TheVariants.{Claim, Inject, Handle, Fire, Ack, Purge}
+use Rattle.mw_types.specs.declared.entry.Entry.TheVariants.{Inject, Handle, Fire, Ack}
 use Rattle.mw_types.specs.Outcomes.{EffectsView}
 use Rattle.topology.specs.Shapes.{Shape, kind_of}
 use Rattle.computations.specs.Handlers.{window_due, count_timer, effects_of_timer}
@@ -34,7 +34,6 @@ module _ (case : CaseShape) (part size : ℕ) (kind : kind_of case.topology part
   -- an entry fires as often as it adds a record
   one : (h : List Entry) (entry : Entry) → IsLegal case h → MayFollow case (run_of shape h) entry
       → fires_on part entry ≡ length (out_at part (added_by (run_of shape h) entry))
-  one h (Claim worker interval) legal may = refl
   one h (Inject seq other line item) legal may =
       sym (ap length (added-other part (run_of shape h) (Inject seq other line item) (record { part = other; key = [] }) refl
       (computation-apart shape part other (kinds.Count size) kind may.injector)))
@@ -75,7 +74,7 @@ module _ (case : CaseShape) (part size : ℕ) (kind : kind_of case.topology part
     where
       none : (entry : Entry) → added_by (run_of shape h) entry ≡ [] → ◌≡◌ {A = ℕ} 0 (length (out_at part (added_by (run_of shape h) entry)))
       none entry e = sym (ap (λ l. length (out_at part l)) e)
-  one h (Purge seq row floor) legal may = refl
+  one h _ legal may = refl
 
   -- a count fires as often as there are records in its stream
   pub count-fires : (h : List Entry) → IsLegal case h → total (fires_on part) h ≡ length (out_at part (out_of shape h))

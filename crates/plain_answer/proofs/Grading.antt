@@ -16,7 +16,7 @@ use Rattle.mw_types.specs.declared.kind.Kind.{Kind}
 use Rattle.mw_types.specs.declared.kind.Kind.TheVariants as kinds
 use Rattle.mw_types.specs.declared.delivery.Delivery.{Delivery}
 use Rattle.mw_types.specs.declared.entry.Entry.{Entry}
-use Rattle.mw_types.specs.declared.entry.Entry.TheVariants.{Claim, Inject, Handle, Fire, Ack, Purge}
+use Rattle.mw_types.specs.declared.entry.Entry.TheVariants.{Inject, Handle, Fire}
 use Rattle.mw_types.specs.Kinds.{IsKind}
 use Rattle.mw_types.specs.Outcomes.{EffectsView}
 use Rattle.topology.specs.declared.subscription.Subscription.{Subscription}
@@ -152,7 +152,6 @@ module _ (case : CaseShape) (runs : IsRunnable case) where
   -- what an entry brings about
   entry-near : (run : Run) (entry : Entry) → AreGraded shape run → MayFollow case run entry
       → AllByRecursion IsGraded (deliveries_of shape run.made run.next entry)
-  entry-near run (Claim worker interval) graded may = tt
   entry-near run (Inject seq part line item) graded may =
       let input = injected-in_time (source_of case part) line item (source_of-source case part runs) may.of_line in
       let within : part < injectors_of shape = ltb-true part (injectors_of shape) may.injector in
@@ -180,15 +179,12 @@ module _ (case : CaseShape) (runs : IsRunnable case) where
       sent-graded shape row.part effects.productions _ run.next runs.topology (kind-there shape row.part kind.0 kind.1)
       (each-weaker (λ (p : Production). p.stamp ≤ timer.time) (λ (p : Production). p.stamp ≤ grade row.part + 2 ^ 40)
       (λ p low. omega (arith, low, due)) effects.productions by)
-  entry-near run (Ack seq row id) graded may = tt
-  entry-near run (Purge seq row floor) graded may = tt
+  entry-near run _ graded may = tt
 
   -- the timers that an entry leaves in its row
   timers-near : (run : Run) (entry : Entry) (sent : List Delivery) (name : RowName) → AreGraded shape run → MayFollow case run entry
       → row_written entry ≡ Some name
       → AllByRecursion (IsDueBy name.part) (changed entry sent (row_of shape run name)).timers
-  timers-near run (Claim worker interval) sent name graded may here = graded.timers name
-  timers-near run (Inject seq part line item) sent name graded may here = graded.timers name
   timers-near run (Handle seq row id effects) sent name graded may here =
       let same : row ≡ name = some_same row name here in
       let kind = was_some (λ (kind : Kind). effects_of_record kind row.key (row_of shape run row).state may.delivery.item)
@@ -207,8 +203,7 @@ module _ (case : CaseShape) (runs : IsRunnable case) where
       (graded.timers name)
   timers-near run (Fire seq row timer mark effects) sent name graded may here =
       each-filter (IsDueBy name.part) (λ t. not (is_timer timer.tag timer.time t)) (row_of shape run name).timers (graded.timers name)
-  timers-near run (Ack seq row id) sent name graded may here = graded.timers name
-  timers-near run (Purge seq row floor) sent name graded may here = graded.timers name
+  timers-near run _ sent name graded may here = graded.timers name
 
   -- one more entry keeps it so
   pub next-graded : (done : List Entry) (run : Run) (entry : Entry) → AreGraded shape run → MayFollow case run entry

@@ -7,7 +7,7 @@ use Rattle.std.proofs.lemmas.List.Kept.{IsStrictlySortedBy-filter}
 use Rattle.mw_types.specs.declared.identity.RecordId.{RecordId}
 use Rattle.mw_types.specs.declared.delivery.Delivery.{Delivery}
 use Rattle.mw_types.specs.declared.entry.Entry.{Entry}
-use Rattle.mw_types.specs.declared.entry.Entry.TheVariants.{Claim, Inject, Handle, Fire, Ack, Purge}
+use Rattle.mw_types.specs.declared.entry.Entry.TheVariants.{Handle}
 use Rattle.row_parts.specs.Contents.{same_id, without_delivery, delivery_cmp, found_delivery}
 use Rattle.run_history.specs.Cases.{CaseShape}
 use Rattle.run_history.specs.Made.{deliveries_of}
@@ -47,11 +47,7 @@ waits-apart case run (Handle seq row id effects) f sorted may =
     let here : total f (handled_by run (Handle seq row id effects)) ≡ f may.delivery + 0 =
     ap (λ o. total f (option_to_list o)) may.waits in
     omega (arith, here, taken-out id f run.unhandled may.delivery sorted may.waits)
-waits-apart case run (Claim worker interval) f sorted may = omega arith
-waits-apart case run (Inject seq part line item) f sorted may = omega arith
-waits-apart case run (Fire seq row timer mark effects) f sorted may = omega arith
-waits-apart case run (Ack seq row id) f sorted may = omega arith
-waits-apart case run (Purge seq row floor) f sorted may = omega arith
+waits-apart case run _ f sorted may = omega arith
 
 -- after a legal history what was made is what was handled and what waits
 pub handled-total : (case : CaseShape) (f : Delivery → ℕ) (h : List Entry) → IsLegal case h

@@ -99,11 +99,7 @@ handles-length case = along_legal case (λ h. total (λ e. when (is_handle e) 1)
   where
     one : (run : Run) (entry : Entry) → MayFollow case run entry → when (is_handle entry) 1 ≡ length (handled_by run entry)
     one run (Handle seq row id effects) may = sym (ap (λ o. length (option_to_list o)) may.waits)
-    one run (Claim worker interval) may = refl
-    one run (Inject seq part line item) may = refl
-    one run (Fire seq row timer mark effects) may = refl
-    one run (Ack seq row id) may = refl
-    one run (Purge seq row floor) may = refl
+    one run _ may = refl
 
 -- what is handled goes to one computation
 abbrev IsPlaced : Shape → Delivery → Type 0
@@ -125,11 +121,7 @@ done-placed case = along_legal case (λ h. AllByRecursion (IsPlaced case.topolog
         (kind_of case.topology row.part) effects may.does in
         subst (λ o. AllByRecursion (IsPlaced case.topology) (option_to_list o)) (sym may.waits)
         (kind-placed case.topology may.delivery.to.part kind.0 (ap (λ (r : RowName). kind_of case.topology r.part) may.to_row ∙ kind.1), tt)
-    new run (Claim worker interval) may = tt
-    new run (Inject seq part line item) may = tt
-    new run (Fire seq row timer mark effects) may = tt
-    new run (Ack seq row id) may = tt
-    new run (Purge seq row floor) may = tt
+    new run _ may = tt
 
 -- ---- timers that fire
 
@@ -169,11 +161,7 @@ fires-placed case = along_legal case
         let kind = was_some (λ (kind : Kind). effects_of_timer kind row.key (row_of case.topology run row).state timer)
         (kind_of case.topology row.part) effects may.does in
         sym (kind-placed case.topology row.part kind.0 kind.1)
-    one run (Claim worker interval) may = none (enumerate_from (injectors_of case.topology) case.topology.computations)
-    one run (Inject seq part line item) may = none (enumerate_from (injectors_of case.topology) case.topology.computations)
-    one run (Handle seq row id effects) may = none (enumerate_from (injectors_of case.topology) case.topology.computations)
-    one run (Ack seq row id) may = none (enumerate_from (injectors_of case.topology) case.topology.computations)
-    one run (Purge seq row floor) may = none (enumerate_from (injectors_of case.topology) case.topology.computations)
+    one run _ may = none (enumerate_from (injectors_of case.topology) case.topology.computations)
 
 -- ---- lines that are injected
 
@@ -227,9 +215,7 @@ injected-total case f = along_legal case
         let kind = was_some (λ (kind : Kind). effects_of_timer kind row.key (row_of case.topology run row).state timer)
         (kind_of case.topology row.part) effects may.does in
         produces row.part timer.late effects.productions (no-injector row.part kind.0 kind.1)
-    one run (Claim worker interval) may = refl
-    one run (Ack seq row id) may = refl
-    one run (Purge seq row floor) may = refl
+    one run _ may = refl
 
 -- a sum over the records of sources
 pub sources-total : (f : Record → ℕ) (n : ℕ) (sources : List Source)

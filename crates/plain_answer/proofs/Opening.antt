@@ -12,7 +12,7 @@ use Rattle.mw_types.specs.declared.kind.Kind.TheVariants as kinds
 use Rattle.mw_types.specs.declared.state.Window.{Window}
 use Rattle.mw_types.specs.declared.delivery.Delivery.{Delivery}
 use Rattle.mw_types.specs.declared.entry.Entry.{Entry}
-use Rattle.mw_types.specs.declared.entry.Entry.TheVariants.{Claim, Inject, Handle, Fire, Ack, Purge}
+use Rattle.mw_types.specs.declared.entry.Entry.TheVariants.{Handle, Fire}
 use Rattle.mw_types.specs.Orders.{row_cmp}
 use Rattle.topology.specs.Shapes.{Shape, kind_of, parts_of}
 use Rattle.row_parts.specs.Contents.{same_id, found_delivery}
@@ -88,8 +88,6 @@ module _ (case : CaseShape) (name : RowName) (size : ℕ) (runs : IsRunnable cas
   -- what an entry does on the row
   pub does : (deeds : List Deed) (run : Run) (entry : Entry) → ArePassed deeds run → AreGraded shape run
       → MayFollow case run entry → Does size deeds (deeds_in name run entry)
-  does deeds run (Claim worker interval) passed below may = inl refl
-  does deeds run (Inject seq part line item) passed below may = inl refl
   does deeds run (Handle seq row id effects) passed below may =
       elim (is_at (row_cmp name) row) as
       (λ b. is_at (row_cmp name) row ≡ b → Does size deeds (cond b (taken (found_delivery id run.unhandled)) [])) [
@@ -109,14 +107,11 @@ module _ (case : CaseShape) (name : RowName) (size : ℕ) (runs : IsRunnable cas
         ]
         | false ↦ inl refl
       ]
-  does deeds run (Ack seq row id) passed below may = inl refl
-  does deeds run (Purge seq row floor) passed below may = inl refl
+  does deeds run _ passed below may = inl refl
 
   -- a time that an entry fires on the row is at most the low watermark
   fires-low : (run : Run) (entry : Entry) → MayFollow case run entry → (time : ℕ) → 0 < fired_at time (deeds_in name run entry)
       → time ≤ low_watermark case run name.part
-  fires-low run (Claim worker interval) may time some = absurd (omega (arith, some))
-  fires-low run (Inject seq part line item) may time some = absurd (omega (arith, some))
   fires-low run (Handle seq row id effects) may time some =
       elim (is_at (row_cmp name) row) as
       (λ b. 0 < fired_at time (cond b (taken (found_delivery id run.unhandled)) []) → time ≤ low_watermark case run name.part) [
@@ -147,8 +142,7 @@ module _ (case : CaseShape) (name : RowName) (size : ℕ) (runs : IsRunnable cas
       by_tag : (b : Bool) → 0 < fired_at time (cond b (fired timer.time ∷ []) []) → time ≡ timer.time
       by_tag true s = by_time (timer.time == time) refl s
       by_tag false s = absurd (omega (arith, s))
-  fires-low run (Ack seq row id) may time some = absurd (omega (arith, some))
-  fires-low run (Purge seq row floor) may time some = absurd (omega (arith, some))
+  fires-low run _ may time some = absurd (omega (arith, some))
 
   -- times that were passed still are, and so is what the entry fires
   passed-next : (done : List Entry) (run : Run) (entry : Entry) (deeds : List Deed) → AreIds done run → AreInTime run

@@ -13,7 +13,7 @@ use Rattle.mw_types.specs.declared.record.Production.{Production}
 use Rattle.mw_types.specs.declared.kind.Kind.{Kind}
 use Rattle.mw_types.specs.declared.delivery.Delivery.{Delivery}
 use Rattle.mw_types.specs.declared.entry.Entry.{Entry}
-use Rattle.mw_types.specs.declared.entry.Entry.TheVariants.{Claim, Inject, Handle, Fire, Ack, Purge}
+use Rattle.mw_types.specs.declared.entry.Entry.TheVariants.{Inject, Handle, Fire}
 use Rattle.topology.specs.declared.subscription.Subscription.{Subscription}
 use Rattle.topology.specs.Shapes.{Shape, ComputationShape, injectors_of, parts_of, consumers_of, feeds_of, kind_of}
 use Rattle.injector.specs.Sources.{SourceLine}
@@ -105,7 +105,6 @@ added-there shape run entry row written there =
 -- what an entry adds
 entry-there : (case : CaseShape) (run : Run) (entry : Entry) → MayFollow case run entry
     → AllByRecursion (IsThere case.topology) (added_by run entry)
-entry-there case run (Claim worker interval) may = tt
 entry-there case run (Inject seq part line item) may =
     let less = ltb-true part (injectors_of case.topology) may.injector in (omega (arith, less), tt)
 entry-there case run (Handle seq row id effects) may =
@@ -116,8 +115,7 @@ entry-there case run (Fire seq row timer mark effects) may =
     let kind = was_some (λ (kind : Kind). effects_of_timer kind row.key (row_of case.topology run row).state timer)
     (kind_of case.topology row.part) effects may.does in
     added-there case.topology run (Fire seq row timer mark effects) row refl (kind-there case.topology row.part kind.0 kind.1)
-entry-there case run (Ack seq row id) may = tt
-entry-there case run (Purge seq row floor) may = tt
+entry-there case run _ may = tt
 
 -- what is in the streams after each legal history
 pub out-there : (case : CaseShape) (h : List Entry) → IsLegal case h → AllByRecursion (IsThere case.topology) (out_of case.topology h)

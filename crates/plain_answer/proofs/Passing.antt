@@ -14,7 +14,7 @@ use Rattle.mw_types.specs.declared.state.State.{State}
 use Rattle.mw_types.specs.declared.state.State.TheVariants as states
 use Rattle.mw_types.specs.declared.delivery.Delivery.{Delivery}
 use Rattle.mw_types.specs.declared.entry.Entry.{Entry}
-use Rattle.mw_types.specs.declared.entry.Entry.TheVariants.{Claim, Inject, Handle, Fire, Ack, Purge}
+use Rattle.mw_types.specs.declared.entry.Entry.TheVariants.{Inject, Handle, Fire, Ack}
 use Rattle.mw_types.specs.Outcomes.{EffectsView}
 use Rattle.topology.specs.Shapes.{Shape, kind_of}
 use Rattle.row_parts.specs.Contents.{Contents}
@@ -92,7 +92,6 @@ module _ (case : CaseShape) (part : ℕ) (kind : kind_of case.topology part ≡ 
   -- what an entry adds is what it handles
   adds : (h : List Entry) (entry : Entry) → IsLegal case h → MayFollow case (run_of shape h) entry
       → out_at part (added_by (run_of shape h) entry) ≡ items (done_at part (handled_by (run_of shape h) entry))
-  adds h (Claim worker interval) legal may = refl
   adds h (Inject seq other line item) legal may =
       added-other part (run_of shape h) (Inject seq other line item) (record { part = other; key = [] }) refl
       (computation-apart shape part other kinds.Pass kind may.injector)
@@ -132,7 +131,7 @@ module _ (case : CaseShape) (part : ℕ) (kind : kind_of case.topology part ≡ 
     where
       added-none : (entry : Entry) → added_by (run_of shape h) entry ≡ [] → out_at part (added_by (run_of shape h) entry) ≡ []
       added-none entry none = ap (out_at part) none
-  adds h (Purge seq row floor) legal may = refl
+  adds h _ legal may = refl
 
   -- after each legal history the stream of a pass has what its rows handled
   pub legal-passed : (h : List Entry) → IsLegal case h → IsPassed h
@@ -168,10 +167,7 @@ module _ (case : CaseShape) (part : ℕ) (kind : kind_of case.topology part ≡ 
           ∙ pass-timers row.key (row_of shape (run_of shape h) row).state may.delivery.item) i) (was i))
       after h (Fire seq row timer mark effects) may was written sent =
           ap (Rattle.row_parts.specs.Contents.without_timer timer.tag timer.time) was
-      after h (Claim worker interval) may was written sent = was
-      after h (Inject seq other line item) may was written sent = was
-      after h (Ack seq row id) may was written sent = was
-      after h (Purge seq row floor) may was written sent = was
+      after h _ may was written sent = was
 
   -- so none fires
   pub pass-fires : (h : List Entry) → IsLegal case h → total (fires_on part) h ≡ 0
@@ -185,8 +181,4 @@ module _ (case : CaseShape) (part : ℕ) (kind : kind_of case.topology part ≡ 
             | true ↦ λ e. absurd (none_some timer (sym (ap (λ ts. slice_get ts 0) (no-timers row e h legal)) ∙ may.least_timer))
             | false ↦ λ e. refl
           ] refl
-      one h (Claim worker interval) legal may = refl
-      one h (Inject seq other line item) legal may = refl
-      one h (Handle seq row id effects) legal may = refl
-      one h (Ack seq row id) legal may = refl
-      one h (Purge seq row floor) legal may = refl
+      one h _ legal may = refl

@@ -11,7 +11,7 @@ use Rattle.mw_types.specs.declared.identity.RowName.{RowName}
 use Rattle.mw_types.specs.declared.kind.Kind.TheVariants as kinds
 use Rattle.mw_types.specs.declared.delivery.Delivery.{Delivery}
 use Rattle.mw_types.specs.declared.entry.Entry.{Entry}
-use Rattle.mw_types.specs.declared.entry.Entry.TheVariants.{Claim, Inject, Handle, Fire, Ack, Purge}
+use Rattle.mw_types.specs.declared.entry.Entry.TheVariants.{Handle, Fire}
 use Rattle.mw_types.specs.Orders.{row_cmp}
 use Rattle.topology.specs.Shapes.{Shape, kind_of, parts_of}
 use Rattle.row_parts.specs.Contents.{same_id}
@@ -79,10 +79,7 @@ one case name size end run (Fire seq row timer mark effects) may = by_row (is_at
     by_row true true = refl
     by_row true false = refl
     by_row false c = refl
-one case name size end run (Claim worker interval) may = refl
-one case name size end run (Inject seq part line item) may = refl
-one case name size end run (Ack seq row id) may = refl
-one case name size end run (Purge seq row floor) may = refl
+one case name size end run _ may = refl
 
 -- what a row took is what was handled on it
 pub taken-done : (case : CaseShape) (name : RowName) (size end : ℕ) (h : List Entry) → IsLegal case h
@@ -122,11 +119,7 @@ done-graded case runs = along_legal case (λ h. AllByRecursion IsGraded (done_of
               (legal-graded case h runs legal).waiting may.waits,
           tt,
         )
-    new h (Claim worker interval) legal may = tt
-    new h (Inject seq part line item) legal may = tt
-    new h (Fire seq row timer mark effects) legal may = tt
-    new h (Ack seq row id) legal may = tt
-    new h (Purge seq row floor) legal may = tt
+    new h _ legal may = tt
 
 -- ---- what a part read
 

@@ -7,6 +7,7 @@ use Rattle.text_lines.specs.Words.{both, is_word, word_of}
 use Rattle.topology.specs.Shapes.{Shape}
 use Rattle.topology.specs.Rules.{interval_count}
 use Rattle.mw_types.specs.declared.refusal.PlanRefusal.{PlanRefusal}
+use Rattle.plans.specs.Named.{interval_in}
 use Rattle.plans.specs.declared.action.Action.{Action}
 use Rattle.plans.specs.declared.action.What.{What}
 use Rattle.plans.specs.declared.action.What.TheVariants as whats
@@ -36,10 +37,6 @@ worker_in workers word = below workers word
 -- the round that a word names, of so many
 abbrev pub round_in : ℕ → List ℕ → Option ℕ
 round_in rounds word = below rounds word
-
--- the interval that a word names
-abbrev pub interval_in : Shape → List ℕ → Option ℕ
-interval_in shape word = below (interval_count shape) word
 
 -- what happens to a worker alone
 abbrev pub happens_to : ℕ → List ℕ → List ℕ → Option What

@@ -1,11 +1,12 @@
-//! The action that a line of a plan names.
+//! The action that a line of a plan of threads names.
 ghost use Rattle.std.specs.Prelude.{◌≡◌, ◌<◌, IfSome};
-ghost use Rattle.topology.specs.Rules.{interval_count};
 ghost use Rattle.topology.specs.Shapes.{Shape};
 ghost use Rattle.text_lines.specs.Words.{word_of};
-ghost use Rattle.plans.specs.Plans.{IsAction, IsWhat, action_of, happens_in, happens_to, interval_in, moved_to, round_in, timed, what_of, worker_in};
+ghost use Rattle.plans.specs.Named.{interval_in};
+ghost use Rattle.plans.specs.Plans.{IsAction, IsWhat, action_of, happens_in, happens_to, moved_to, round_in, timed, what_of, worker_in};
 
 use crate::action::{Action, What};
+use crate::named::interval_in;
 use run_history::Case;
 use text_lines::{LineReader, below, first_word};
 
@@ -45,14 +46,6 @@ fn round_in(rounds: u32, word: &[u8]) -> Option<u32>
     ensures range { IfSome result (λ n. n < rounds) }
 {
     below(u64::from(rounds), word)
-}
-
-// The interval that a word names.
-fn interval_in(case: &Case, word: &[u8]) -> Option<u32>
-    ensures number { result ≡ interval_in case.now.topology word.now }
-    ensures range { IfSome result (λ n. n < interval_count case.now.topology) }
-{
-    below(u64::from(case.intervals().count()), word)
 }
 
 // What happens to a worker alone.

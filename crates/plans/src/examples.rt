@@ -1,4 +1,4 @@
-//! Examples that were worked out by hand, which the definition of plans must meet.
+//! Examples that were worked out by hand, which the definition of plans of threads must meet.
 ghost use Rattle.std.specs.Prelude.{◌≡◌, [], Ok, codes};
 ghost use Rattle.plans.specs.PlanExamples.{full_actions, full_plan, refused_at, said_by, said_in, uneven_actions, uneven_plan};
 

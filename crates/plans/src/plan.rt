@@ -1,4 +1,4 @@
-//! A plan, and how it is read.
+//! A plan of actions, and how it is read.
 ghost use Rattle.std.specs.Prelude.{All, ◌≡◌, ◌<◌, ◌^◌, length, IfErr, IfOk, Ok};
 ghost use Rattle.json_reading.specs.Refusals.{IsRefusalOf};
 ghost use Rattle.plans.specs.Plans.{IsAction, actions_of};

@@ -18,11 +18,11 @@ use Rattle.live_outlet.specs.Outlets.{OutletView, WritesTo, emitted_by, live_lin
 use Rattle.live_outlet.proofs.Emitting.{emitted-all}
 use Rattle.live_outlet.proofs.Pumping.{append_known-none, writes-more}
 use Rattle.node.specs.declared.outcome.Outcome.{Outcome}
-use Rattle.world.specs.Acts.{Acted, world_then}
-use Rattle.world.specs.Stepping.{HasActed}
-use Rattle.world.specs.WorldStates.{WorldState, world_of}
-use Rattle.world.specs.Worlds.{World, empty_world}
-use Rattle.world.specs.declared.step.Step.{Step}
+use Rattle.world.specs.scripts.Acts.{Acted, world_then}
+use Rattle.world.specs.scripts.Stepping.{HasActed}
+use Rattle.world.specs.scripts.WorldStates.{WorldState, world_of}
+use Rattle.world.specs.scripts.Worlds.{World, empty_world}
+use Rattle.plans.specs.declared.step.Step.{Step}
 use Rattle.task_runs.specs.Lives.{GoesOnBy, IsWritingOn, WritesLines, WritesReplay, place_behind, pumped_from, script_lines, stepped_from, written_before}
 use Rattle.task_runs.proofs.Living.{behind-none, ended-append, lines-ended, more-again, piece-alone}
 use Rattle.task_runs.proofs.Running.{seen_again}

@@ -12,7 +12,7 @@ use Rattle.live_outlet.specs.Covering.{ended, results_of}
 use Rattle.book.specs.Claims.{IsDamagedRow}
 use Rattle.node.specs.declared.outcome.NodeFault.{NodeFault}
 use Rattle.node.specs.declared.outcome.NodeFault.TheVariants as faults
-use Rattle.world.specs.declared.step.Step.{Step}
+use Rattle.plans.specs.declared.step.Step.{Step}
 use Rattle.task_runs.specs.declared.live.LiveFault.{LiveFault}
 use Rattle.task_runs.specs.declared.live.LiveFault.TheVariants as lives
 use Rattle.task_runs.specs.declared.status.Status.{Status}

@@ -7,10 +7,10 @@ use Rattle.topology.specs.Rules.{IsTopology, interval_count}
 use Rattle.row_keeper.specs.Rows.{Rows}
 use Rattle.run_history.specs.Cases.{CaseShape}
 use Rattle.run_history.specs.Fences.{Begins}
-use Rattle.world.specs.Acts.{scripted_history, world_after}
-use Rattle.world.specs.Worlds.{World, empty_world}
-use Rattle.world.specs.declared.step.Step.{Step}
-use Rattle.world.specs.Drains.{IsDraining, HasEnded}
+use Rattle.world.specs.scripts.Acts.{scripted_history, world_after}
+use Rattle.world.specs.scripts.Worlds.{World, empty_world}
+use Rattle.plans.specs.declared.step.Step.{Step}
+use Rattle.world.specs.drains.Drains.{IsDraining, HasEnded}
 use Rattle.world.specs.Replays.{GoesOn, IsReplayed, IsWholeReplay}
 
 -- a script that stopped on its way has written a beginning of what it writes

@@ -19,7 +19,7 @@ use Rattle.node.specs.declared.outcome.NodeFault.{NodeFault}
 use Rattle.node.specs.declared.outcome.NodeFault.TheVariants as faults
 use Rattle.plans.specs.declared.action.Action.{Action}
 use Rattle.workers.specs.Rounds.{HasInjectedAll, IsDamageAt, claims_in, first_claims, rounds_room}
-use Rattle.world.specs.Drains.{HasEnded, IsDrained, IsDraining}
+use Rattle.world.specs.drains.Drains.{HasEnded, IsDrained, IsDraining}
 use Rattle.world.specs.Replays.{GoesOn}
 use Rattle.task_runs.specs.declared.task.Before.{Before}
 use Rattle.task_runs.specs.declared.task.Before.TheVariants.{Steps, Rounds}

@@ -19,10 +19,10 @@ use Rattle.book.specs.OwnDesks.{own_view, telling}
 use Rattle.node.specs.Answers.{refusal_of}
 use Rattle.node.specs.declared.outcome.NodeFault.{NodeFault}
 use Rattle.node.specs.declared.outcome.NodeFault.TheVariants as faults
-use Rattle.world.specs.declared.step.Step.{Step}
-use Rattle.world.specs.Drains.{HasInjected, IsDrained, IsDraining}
+use Rattle.plans.specs.declared.step.Step.{Step}
+use Rattle.world.specs.drains.Drains.{HasInjected, IsDrained, IsDraining}
 use Rattle.world.specs.Replays.{GoesOn, IsReplayed, IsWholeReplay}
-use Rattle.world.specs.Acts.{scripted_history}
+use Rattle.world.specs.scripts.Acts.{scripted_history}
 use Rattle.history_laws.specs.Writes.{IsLegalAndFenced}
 use Rattle.run_history.specs.Fences.{Begins}
 use Rattle.topology.specs.Rules.{IsTopology, interval_count}

@@ -5,9 +5,9 @@ use Rattle.mw_types.specs.declared.entry.Entry.{Entry}
 use Rattle.run_history.specs.Cases.{CaseShape}
 use Rattle.run_history.specs.Fences.{Begins}
 use Rattle.history_laws.specs.Writes.{IsLegalAndFenced}
-use Rattle.world.specs.declared.step.Step.{Step}
+use Rattle.plans.specs.declared.step.Step.{Step}
 use Rattle.workers.specs.Rounds.{HasInjectedAll, claims_in, first_claims, rounds_room}
-use Rattle.world.specs.Drains.{HasEnded, IsDrained}
+use Rattle.world.specs.drains.Drains.{HasEnded, IsDrained}
 use Rattle.world.specs.Replays.{GoesOn, IsReplayed, IsWholeReplay}
 use Rattle.task_runs.specs.declared.task.Before.{Before}
 use Rattle.task_runs.specs.declared.task.Before.TheVariants.{Steps, Rounds}

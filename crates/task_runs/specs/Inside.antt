@@ -16,13 +16,13 @@ use Rattle.book.specs.Books.{BookView}
 use Rattle.book.specs.DeskReasons.{IsDamageOf}
 use Rattle.book.specs.OwnDesks.{own_view, telling}
 use Rattle.node.specs.Answers.{refusal_of}
-use Rattle.world.specs.Turns.{HasFailed}
-use Rattle.world.specs.DrainTurns.{HasDrained, IsFullBefore}
+use Rattle.world.specs.drains.Turns.{HasFailed}
+use Rattle.world.specs.drains.DrainTurns.{HasDrained, IsFullBefore}
 use Rattle.workers.specs.Rounds.{IsDamageAt, first_claims, rounds_room}
 use Rattle.node.specs.declared.outcome.Outcome.{Outcome}
-use Rattle.world.specs.declared.step.Step.{Step}
-use Rattle.world.specs.Stepping.{HasActed, HasFaulted}
-use Rattle.world.specs.WorldStates.{WorldState}
+use Rattle.plans.specs.declared.step.Step.{Step}
+use Rattle.world.specs.scripts.Stepping.{HasActed, HasFaulted}
+use Rattle.world.specs.scripts.WorldStates.{WorldState}
 use Rattle.book.specs.declared.refusals.StartWhy.{StartWhy}
 use Rattle.book.specs.declared.refusals.StartWhy.TheVariants as starts
 use Rattle.node.specs.declared.outcome.NodeFault.{NodeFault}

@@ -12,10 +12,10 @@ use Rattle.run_history.specs.Runs.{run_of}
 use Rattle.run_history.specs.Texts.{as_line, summary_data}
 use Rattle.live_outlet.specs.Covering.{StandIn, ended, results_of, told_by}
 use Rattle.live_outlet.specs.Outlets.{IsPumpedFrom, OutletView, emitted_by}
-use Rattle.world.specs.Acts.{world_then}
-use Rattle.world.specs.Worlds.{World, empty_world}
-use Rattle.world.specs.declared.step.Step.{Step}
-use Rattle.world.specs.declared.step.Step.TheVariants as steps
+use Rattle.world.specs.scripts.Acts.{world_then}
+use Rattle.world.specs.scripts.Worlds.{World, empty_world}
+use Rattle.plans.specs.declared.step.Step.{Step}
+use Rattle.plans.specs.declared.step.Step.TheVariants as steps
 
 -- a line is that of an emission of a history's run
 pub record IsResultOf (shape : Shape) (history : List Entry) (line : List ℕ) : Type 0 where

@@ -2,7 +2,7 @@
 use Rattle.std.specs.Prelude.{Bool, true, false, if◌then◌else◌, All}
 use Rattle.command_line.specs.Grammar.{AreSizes}
 use Rattle.topology.specs.Shapes.{Shape}
-use Rattle.world.specs.Steps.{IsStep}
+use Rattle.plans.specs.Steps.{IsStep}
 use Rattle.plans.specs.Plans.{IsAction}
 use Rattle.task_runs.specs.declared.task.Before.{Before}
 use Rattle.task_runs.specs.declared.task.Before.TheVariants.{Steps, Rounds}

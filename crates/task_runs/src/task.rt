@@ -2,9 +2,8 @@
 ghost use Rattle.std.specs.Prelude.{◌≡◌};
 ghost use Rattle.task_runs.specs.Tasks.{is_at_once, wanted_of};
 
-use plans::Actions;
+use plans::{Actions, Schedule};
 use run_history::Case;
-use world::Schedule;
 
 /// What is to be written of a run.
 #[derive(Drop, Clone, Copy)]

@@ -22,7 +22,7 @@ use Rattle.mw_types.specs.declared.state.Window.{Window}
 use Rattle.mw_types.specs.declared.state.HeldTotal.{HeldTotal}
 use Rattle.mw_types.specs.declared.delivery.Delivery.{Delivery}
 use Rattle.mw_types.specs.declared.entry.Entry.{Entry}
-use Rattle.mw_types.specs.declared.entry.Entry.TheVariants.{Claim, Inject, Handle, Fire, Ack, Purge}
+use Rattle.mw_types.specs.declared.entry.Entry.TheVariants.{Inject, Handle, Fire}
 use Rattle.mw_types.specs.Outcomes.{EffectsView}
 use Rattle.injector.specs.Sources.{Source, SourceLine, item_at}
 use Rattle.topology.specs.Shapes.{consumers_of, kind_of}
@@ -256,9 +256,7 @@ changed-values case run (Fire seq name timer mark effects) sent row are may old 
       leaves.state,
       each-filter (λ (t : Timer). t.tag < 2 ^ 64) (λ t. not (is_timer timer.tag timer.time t)) row.timers old.1,
     )
-changed-values case run (Claim worker interval) sent row are may old = old
-changed-values case run (Ack seq name id) sent row are may old = old
-changed-values case run (Purge seq name floor) sent row are may old = old
+changed-values case run _ sent row are may old = old
 
 -- an injected record is as the records of all lines are
 pub injected-each : (P : Record → Type 0) (case : CaseShape) (part line : ℕ) (item : Record)

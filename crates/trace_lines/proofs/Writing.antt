@@ -324,12 +324,9 @@ outcome-shallow e = (
 
 -- an entry nests thrice at most
 pub entry-shallow : (n : ℕ) (e : Entry) → depth (entry_data n e) ≤ max_depth
-entry-shallow n (Claim worker interval) = omega arith
-entry-shallow n (Inject seq part line item) = omega arith
 entry-shallow n (Handle seq row id effects) = omega (arith, (outcome-shallow effects).0, (outcome-shallow effects).1)
 entry-shallow n (Fire seq row timer mark effects) = omega (arith, (outcome-shallow effects).0)
-entry-shallow n (Ack seq row id) = omega arith
-entry-shallow n (Purge seq row floor) = omega arith
+entry-shallow n _ = omega arith
 
 -- ---- the text of an entry
 

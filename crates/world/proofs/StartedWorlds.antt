@@ -13,15 +13,15 @@ use Rattle.book.specs.OwnDesks.{own_view}
 use Rattle.node.specs.Fits.{Fits}
 use Rattle.node.specs.Workers.{NodeView, Worker, idle, worker_at}
 use Rattle.node.specs.declared.outcome.NodeFault.{NodeFault}
-use Rattle.world.specs.Keeping.{AreClaimed}
-use Rattle.world.specs.Worlds.{world_on}
-use Rattle.world.proofs.Leases.{AreClaimed-first}
-use Rattle.world.specs.Standing.{IsFlying, IsWorld}
-use Rattle.world.specs.WorkerCalls.{AreNewTo}
+use Rattle.world.specs.scripts.Keeping.{AreClaimed}
+use Rattle.world.specs.scripts.Worlds.{world_on}
+use Rattle.world.proofs.scripts.Leases.{AreClaimed-first}
+use Rattle.world.specs.scripts.Standing.{IsFlying, IsWorld}
+use Rattle.world.specs.scripts.WorkerCalls.{AreNewTo}
 use Rattle.world.specs.WorldDrains.{AreNew, HasDrain}
-use Rattle.world.specs.WorldStates.{WorldState, world_of}
-use Rattle.world.specs.DrainTurns.{DrainView, HasDrained, IsUnderWay}
-use Rattle.world.specs.Turns.{HasFailed}
+use Rattle.world.specs.scripts.WorldStates.{WorldState, world_of}
+use Rattle.world.specs.drains.DrainTurns.{DrainView, HasDrained, IsUnderWay}
+use Rattle.world.specs.drains.Turns.{HasFailed}
 
 -- one worker more
 pub new-more : (count : ℕ) (nodes : List NodeView) (node : NodeView) → AreNew count nodes → node.number ≡ count

@@ -3,9 +3,9 @@ use Rattle.std.specs.Prelude.{◌⊎◌, List, length}
 use Rattle.mw_types.specs.declared.entry.Entry.{Entry}
 use Rattle.run_history.specs.Cases.{CaseShape}
 use Rattle.run_history.specs.Fences.{Begins}
-use Rattle.world.specs.Acts.{scripted_history}
-use Rattle.world.specs.declared.step.Step.{Step}
-use Rattle.world.specs.Drains.{IsDrained, IsDraining}
+use Rattle.world.specs.scripts.Acts.{scripted_history}
+use Rattle.plans.specs.declared.step.Step.{Step}
+use Rattle.world.specs.drains.Drains.{IsDrained, IsDraining}
 
 -- a history goes on from another as a drain does
 pub record GoesOn (case : CaseShape) (front history : List Entry) : Type 0 where

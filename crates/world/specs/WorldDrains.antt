@@ -4,8 +4,8 @@ use Rattle.run_history.specs.Cases.{CaseShape}
 use Rattle.book.specs.Desks.{DeskView}
 use Rattle.node.specs.Fits.{Fits}
 use Rattle.node.specs.Workers.{NodeView, idle, worker_at}
-use Rattle.world.specs.DrainTurns.{DrainView, IsUnderWay}
-use Rattle.world.specs.WorldStates.{WorldState}
+use Rattle.world.specs.drains.DrainTurns.{DrainView, IsUnderWay}
+use Rattle.world.specs.scripts.WorldStates.{WorldState}
 
 -- so many new workers, by their numbers
 pub record AreNew (count : ℕ) (nodes : List NodeView) : Type 0 where

@@ -1,75 +1,50 @@
-//! Schedules and drains: the scripted world, in which sixteen workers claim, crash, send, take and write, and
+//! Scripts and drains: the scripted world, in which sixteen workers claim, crash, send, take and write, and
 //! messages come twice or are lost, in any order; the world that does the steps of a script for real; and the
 //! order in which one thread works off what is left.
 //!
-//! A script is a list of steps, which a schedule gives one a line. A drain claims each interval, and then
-//! writes the one entry that its rules name, until none is left to write. Each law of scripts, of drains and
-//! of rounds of reports is the contract of a function with an empty body. Stands on `node` and the crates
-//! below it. Public contract: a schedule is read exactly, or its first line that is no step is named; where a
-//! contract can see the keeper's rows a step of a `World` answers what the scripted world does, and leaves
-//! that world, and over every keeper it appends at most one entry, and an answer that names a number has its
-//! cause; each history that a script writes is fenced, and a copy of a record is a duplicate exactly where its
-//! record was handled; `drain` returns over every keeper, and where a contract can see the keeper's rows it
-//! writes exactly the entries of its order, each by a `drain_turn`, and after Ok none is left.
-//! Definitions: `specs/Worlds.antt` and `specs/Acts.antt`, what the scripted world is and what a step does;
-//! `specs/Keeping.antt` and `specs/Copies.antt`, what the laws say; `specs/Scripts.antt`, the worked scripts;
-//! `specs/Schedules.antt`, what a schedule says; `specs/Drains.antt`, what a drain writes;
-//! `specs/DrainTurns.antt`, when one is under way; `specs/ReportRounds.antt`, a round of reports;
-//! `specs/WorldStates.antt`, `specs/Stepping.antt` and `specs/Replays.antt`, what it means that steps are done
-//! for real; `specs/WorldDrains.antt`, when a drain of a world is under way.
+//! A script is a list of steps, which a schedule of `plans` gives one a line. A drain claims each interval,
+//! and then writes the one entry that its rules name, until none is left to write. Each law of scripts, of
+//! drains and of rounds of reports is the contract of a function with an empty body. Stands on `node`, on
+//! `plans` and on the crates below them. Public contract: where a contract can see the keeper's rows a step of
+//! a `World` answers what the scripted world does, and leaves that world, and over every keeper it appends at
+//! most one entry, and an answer that names a number has its cause; each history that a script writes is
+//! fenced, and a copy of a record is a duplicate exactly where its record was handled; `drain` returns over
+//! every keeper, and where a contract can see the keeper's rows it writes exactly the entries of its order,
+//! each by a `drain_turn`, and after Ok none is left.
+//! Definitions, in `specs/scripts`: `Worlds.antt` and `Acts.antt`, what the scripted world is and what a step
+//! does; `Keeping.antt` and `Copies.antt`, what the laws say; `Scripts.antt`, the worked scripts;
+//! `WorldStates.antt` and `Stepping.antt`, what it means that steps are done for real. In `specs/drains`:
+//! `Drains.antt`, what a drain writes; `DrainTurns.antt`, when one is under way; `ReportRounds.antt`, a round
+//! of reports. In `specs`, of both: `Replays.antt`, which histories a script and the drain after it leave;
+//! `WorldDrains.antt`, when a drain of a world is under way.
 #![tactic(auto)]
 
-mod claiming;
-mod copies;
-mod deliveries;
-mod drain_examples;
-mod drain_turns;
-mod draining;
 mod drains;
-mod examples;
-mod firing;
-mod flights;
-mod injecting;
-mod keeping;
-mod least_work;
-mod owners;
-mod purging;
-mod report_rounds;
-mod schedule;
-mod schedule_cases;
-mod script_runs;
-mod standing;
-mod step;
-mod step_lines;
-mod turns;
-mod worker_calls;
-mod world;
+mod scripts;
 mod world_drains;
-mod world_steps;
-mod writes;
 
-pub use copies::copies_are_known;
-pub use drain_examples::drained_example_is_drained;
-pub use drain_turns::{Drain, begin_drain, drain_turn};
-pub use draining::drain;
-pub use drains::{
+pub use drains::drain_examples::drained_example_is_drained;
+pub use drains::drain_turns::{Drain, begin_drain, drain_turn};
+pub use drains::draining::drain;
+pub use drains::laws::{
     drained_histories_are_one, drains_begin_the_drained_history, drains_go_on_until_they_end,
     drains_grow_by_their_next_entries, drains_leave_no_work, drains_look_at_parts_that_are_there,
     ended_drains_have_no_next_entry, next_drain_entries_are_one,
 };
-pub use examples::{
+pub use drains::report_rounds::{
+    a_round_finds_low_watermarks, a_round_leaves_the_greatest_safe_marks,
+};
+pub use plans::{Schedule, Step, read_schedule, schedule_examples};
+pub use scripts::copies::copies_are_known;
+pub use scripts::examples::{
     crash_before_write, crash_between_write_and_send, late_copy_is_duplicate, old_owner_is_stale,
     one_worker_writes_the_drained_example, overtaken_leases_are_lost,
     records_wait_while_one_is_prepared, steps_without_work_change_nothing,
 };
-pub use keeping::{
+pub use scripts::keeping::{
     leases_are_claims_of_their_workers, messages_keep_their_numbers, scripts_keep_what_steps_keep,
     steps_append_at_most_one_entry, steps_keep_workers_and_marks,
 };
-pub use owners::{overtaken_owners_are_refused, scripted_histories_are_fenced};
-pub use report_rounds::{a_round_finds_low_watermarks, a_round_leaves_the_greatest_safe_marks};
-pub use schedule::{Schedule, read_schedule};
-pub use schedule_cases::schedule_examples;
-pub use script_runs::run_script;
-pub use step::Step;
-pub use world::{World, WorldRefusal};
+pub use scripts::owners::{overtaken_owners_are_refused, scripted_histories_are_fenced};
+pub use scripts::script_runs::run_script;
+pub use scripts::world::{World, WorldRefusal};

@@ -4,7 +4,7 @@
 //! stand for a step: `drain`, after which the world is drained, `count`, beside which stands how many
 //! entries there are, and `last`, beside which stands the last of them.
 ghost use Rattle.std.specs.Prelude.{◌≤◌, ◌^◌, All};
-ghost use Rattle.world.specs.Steps.{IsStep};
+ghost use Rattle.plans.specs.Steps.{IsStep};
 
 use super::fixtures::{MOST, world};
 use crate::tests::keepers::{blind, in_memory};

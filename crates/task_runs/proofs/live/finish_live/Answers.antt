@@ -2,7 +2,7 @@ use Rattle.std.proofs.Common.{◌∙◌, ◌==◌, IfSome, Err, length, refl, sy
 use Rattle.mw_types.proofs.CauseLaws.{Rose-before}
 use Rattle.run_history.specs.Cases.{CaseShape}
 use Rattle.run_history.specs.Inputs.{IsRunnable}
-use Rattle.world.specs.Worlds.{World}
+use Rattle.world.specs.scripts.Worlds.{World}
 use Rattle.world.specs.Replays.{IsReplayed, IsWholeReplay}
 use Rattle.task_runs.specs.declared.task.Before.{Before}
 use Rattle.task_runs.specs.Histories.{GoesAs, IsAllOf}

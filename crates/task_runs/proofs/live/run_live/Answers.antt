@@ -1,5 +1,5 @@
 use Rattle.std.proofs.Common.{ap}
-use Rattle.world.specs.Worlds.{World}
+use Rattle.world.specs.scripts.Worlds.{World}
 use Rattle.task_runs.proofs.Living.{pumped-new}
 use Rattle.task_runs.proofs.live.run_live.Goals as goal
 

@@ -5,8 +5,8 @@ use Rattle.run_history.specs.Cases.{CaseShape}
 use Rattle.live_outlet.specs.Outlets.{IsPumpedFrom}
 use Rattle.task_runs.specs.Lives.{LivesOn}
 use Rattle.task_runs.specs.Inside.{StopsLive}
-use Rattle.world.specs.WorldStates.{world_of}
-use Rattle.world.specs.Worlds.{World}
+use Rattle.world.specs.scripts.WorldStates.{world_of}
+use Rattle.world.specs.scripts.Worlds.{World}
 use Rattle.task_runs.proofs.LiveLines.{replayed-lines}
 use Rattle.task_runs.proofs.LiveRuns.{causes-before}
 use Rattle.task_runs.proofs.Replaying.{drained_behind, replayed_of, script_stopped, script_unended, unended_behind, whole_behind}

@@ -1,6 +1,6 @@
 use Rattle.std.proofs.Common.{◌≤◌, ◌==◌, drop, IfSome}
-use Rattle.world.specs.ScriptRuns.{IsRunning}
-use Rattle.world.specs.WorldStates.{world_of}
+use Rattle.world.specs.scripts.ScriptRuns.{IsRunning}
+use Rattle.world.specs.scripts.WorldStates.{world_of}
 use Rattle.task_runs.specs.Lives.{IsPumpedTo, IsWritingOn}
 use Rattle.task_runs.proofs.live.script_live.Given as goal
 

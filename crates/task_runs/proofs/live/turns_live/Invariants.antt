@@ -1,5 +1,5 @@
 use Rattle.std.proofs.Common.{◌≤◌, ◌-◌, length}
-use Rattle.world.specs.DrainTurns.{IsGoingOn}
+use Rattle.world.specs.drains.DrainTurns.{IsGoingOn}
 use Rattle.live_outlet.specs.Outlets.{IsPumpedFrom, WritesTo}
 use Rattle.world.specs.WorldDrains.{HasDrain}
 use Rattle.task_runs.specs.Lives.{TurnsOn}

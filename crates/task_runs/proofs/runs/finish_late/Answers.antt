@@ -6,7 +6,7 @@ use Rattle.run_history.specs.Cases.{CaseShape}
 use Rattle.run_history.specs.Printing.{IsPrintable}
 use Rattle.run_history.specs.HistoryLines.{HasLine}
 use Rattle.run_history.specs.Inputs.{IsRunnable}
-use Rattle.world.specs.Worlds.{World}
+use Rattle.world.specs.scripts.Worlds.{World}
 use Rattle.world.specs.Replays.{IsReplayed, IsWholeReplay}
 use Rattle.task_runs.specs.declared.task.Before.{Before}
 use Rattle.task_runs.specs.Histories.{GoesAs, IsAllOf}

@@ -3,7 +3,7 @@ use Rattle.std.specs.Option.{is_some}
 use Rattle.mw_types.specs.Causes.{Rose}
 use Rattle.book.specs.Books.{BookView}
 use Rattle.run_history.specs.Cases.{CaseShape}
-use Rattle.world.specs.Worlds.{empty_world}
+use Rattle.world.specs.scripts.Worlds.{empty_world}
 use Rattle.task_runs.proofs.Leaving.{same_run, unwanted}
 use Rattle.task_runs.proofs.runs.run_book.Goals as goal
 

@@ -1,6 +1,6 @@
 use Rattle.std.proofs.Common.{◌≡◌, arith, get_or, subst}
 use Rattle.std.proofs.lemmas.Option.{slice_get-get_or}
-use Rattle.world.specs.WorkerCalls.{AreNewTo}
+use Rattle.world.specs.scripts.WorkerCalls.{AreNewTo}
 use Rattle.world.proofs.StartedWorlds.{crashed-all, crashed-more, crashed-none}
 use Rattle.world.proofs.world_drains.crash_all.Goals as goal
 

@@ -1,4 +1,4 @@
-use Rattle.world.specs.WorkerCalls.{AreNewTo}
+use Rattle.world.specs.scripts.WorkerCalls.{AreNewTo}
 use Rattle.world.proofs.world_drains.crash_all.Given as goal
 
 -- the workers so far have crashed

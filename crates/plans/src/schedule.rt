@@ -1,0 +1,50 @@
+//! A schedule, and how it is read.
+ghost use Rattle.std.specs.Prelude.{All, ◌≡◌, ◌<◌, ◌^◌, length, IfErr, IfOk, Ok};
+ghost use Rattle.json_reading.specs.Refusals.{IsRefusalOf};
+ghost use Rattle.plans.specs.Steps.{IsStep};
+ghost use Rattle.plans.specs.Schedules.{schedule_of};
+
+use crate::step::Step;
+use crate::step_lines::StepReader;
+use mw_types::{PlanRefusal, Seq};
+use run_history::Case;
+use std::alloc::Global;
+use std::marker::Model;
+use text_lines::read_all;
+
+/// The steps of a script, in the order of their lines.
+#[derive(Drop)]
+pub struct Schedule {
+    steps: Seq<Step>,
+}
+
+impl Model for Schedule {
+    ghost use Rattle.std.specs.Prelude.{List};
+    ghost use Rattle.plans.specs.declared.step.Step.{Step};
+
+    ghost Value = { List Step };
+
+    ghost view = { λ schedule. schedule.steps };
+}
+
+impl Schedule {
+    /// The steps, first to last.
+    pub fn steps(&self) -> &[Step]
+        ensures steps { result.now ≡ self.now }
+    {
+        self.steps.as_slice()
+    }
+}
+
+/// Reads a schedule for a case, whose intervals and parts its lines may name.
+pub fn read_schedule(alloc: Global, bytes: &[u8], case: &Case) -> Result<Schedule, PlanRefusal>
+    requires few { length bytes.now < 2 ^ 32 }
+
+    ensures steps { IfOk result (λ steps. schedule_of case.now.topology bytes.now ≡ Ok steps) }
+    ensures there { IfOk result (All (IsStep case.now.topology)) }
+    ensures refused { IfErr result
+        (IsRefusalOf PlanRefusal.NoMemory (schedule_of case.now.topology bytes.now)) }
+{
+    let steps = read_all(alloc, bytes, &StepReader { case })?;
+    Ok(Schedule { steps })
+}

@@ -1,5 +1,0 @@
-use Rattle.world.proofs.CopyLaws.{copy-answered, copy-known}
-use Rattle.world.proofs.copies.copies_are_known.Goals as goal
-
-pub returns : goal.returns
-returns c = record { known = copy-known; answered = copy-answered }

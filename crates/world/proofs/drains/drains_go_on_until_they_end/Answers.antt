@@ -1,5 +1,0 @@
-use Rattle.world.proofs.NextLaws.{ended_or_next}
-use Rattle.world.proofs.drains.drains_go_on_until_they_end.Goals as goal
-
-pub returns : goal.returns
-returns c = record { next = ended_or_next }

@@ -1,5 +1,0 @@
-use Rattle.world.proofs.WholeDrains.{draining-first, draining-push}
-use Rattle.world.proofs.drains.drains_grow_by_their_next_entries.Goals as goal
-
-pub returns : goal.returns
-returns c = record { first = draining-first; grown = draining-push }

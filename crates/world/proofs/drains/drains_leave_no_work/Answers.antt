@@ -1,5 +1,0 @@
-use Rattle.world.proofs.EndLaws.{injected-finished}
-use Rattle.world.proofs.drains.drains_leave_no_work.Goals as goal
-
-pub returns : goal.returns
-returns c = record { finished = injected-finished }

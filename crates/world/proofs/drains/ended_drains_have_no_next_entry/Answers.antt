@@ -1,5 +1,0 @@
-use Rattle.world.proofs.OneStep.{ended-none}
-use Rattle.world.proofs.drains.ended_drains_have_no_next_entry.Goals as goal
-
-pub returns : goal.returns
-returns c = record { none = ended-none }

@@ -1,0 +1,30 @@
+use Rattle.std.proofs.Common.{rules}
+use Rattle.node.proofs.FiringLaws.{fire-proposable, firing, may-fire}
+use Rattle.world.specs.drains.Turns.{worker_of}
+use Rattle.world.proofs.drains.CallLaws.{fire-asked}
+use Rattle.world.proofs.Results.{err-any}
+use Rattle.world.proofs.drains.firing.write_fire.Goals as goal
+
+-- what its handler left may be written
+pub write-written-requires-clause-proposal : goal.write-written-requires-clause-proposal
+write-written-requires-clause-proposal g c =
+    fire-proposable c.args.book.now.case c.args.held.now c.args.interval c.args.found.now.name c.args.found.now.timer c.args.mark
+    c.args.effects c.requires.set (c.requires.left c.requires.set)
+
+-- and it is due
+pub write-written-requires-clause-known : goal.write-written-requires-clause-known
+write-written-requires-clause-known g c = record { due = c.requires.next.due; under_marks = c.requires.known }
+
+-- it has fired
+pub returns-clause-asked : goal.returns-clause-asked
+returns-clause-asked g c =
+    fire-asked c.args.book.now c.write-written.new.book c.args.held.now c.args.found.now.name c.args.found.now.timer c.args.mark
+    c.args.interval c.args.effects c.requires.set c.requires.covers c.requires.next (c.requires.left c.requires.set) (search rules)
+
+-- one that fails was asked for
+pub returns-in_err-written-clause-asking : goal.returns-in_err-written-clause-asking
+returns-in_err-written-clause-asking g c = err-any c.from_residual.result (λ why full. (
+  firing c.args.found.now.name c.args.found.now.timer c.args.mark c.args.effects c.requires.set.held,
+  may-fire c.args.book.now.case (worker_of c.args.held.now) c.args.mark c.args.interval c.args.found.now.name c.args.found.now.timer
+      c.args.effects c.requires.set c.requires.covers c.requires.next (c.requires.left c.requires.set),
+))

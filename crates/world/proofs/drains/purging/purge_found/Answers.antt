@@ -1,0 +1,54 @@
+use Rattle.std.proofs.Common.{rules}
+use Rattle.std.specs.Prelude.{None, Some}
+use Rattle.node.specs.Asking.{MayAskPurge}
+use Rattle.node.specs.PurgeSteps.{IsToPurge}
+use Rattle.world.specs.drains.Turns.{worker_of}
+use Rattle.world.proofs.drains.CallLaws.{asked-none, first-may, purge-asked, purge-known}
+use Rattle.world.proofs.Results.{err-any}
+use Rattle.world.proofs.drains.purging.purge_found.Goals as goal
+
+-- the row lies in the interval
+pub purge_row-purged-requires-clause-covers : goal.purge_row-purged-requires-clause-covers
+purge_row-purged-requires-clause-covers g c =
+    let first : IsToPurge c.args.book.now.case.topology (worker_of c.args.held.now) c.args.interval 1 c.args.floor (Some c.in-Some.name) =
+    search rules in
+    let may = first-may c.args.book.now.case.topology c.args.held.now c.args.interval c.args.floor c.in-Some.name first in
+    may.2
+
+-- and is of a part that is there
+pub purge_row-purged-requires-clause-part : goal.purge_row-purged-requires-clause-part
+purge_row-purged-requires-clause-part g c =
+    let first : IsToPurge c.args.book.now.case.topology (worker_of c.args.held.now) c.args.interval 1 c.args.floor (Some c.in-Some.name) =
+    search rules in
+    first.0
+
+-- it may forget
+pub purge_row-purged-requires-clause-floor : goal.purge_row-purged-requires-clause-floor
+purge_row-purged-requires-clause-floor g c =
+    let first : IsToPurge c.args.book.now.case.topology (worker_of c.args.held.now) c.args.interval 1 c.args.floor (Some c.in-Some.name) =
+    search rules in
+    let may = first-may c.args.book.now.case.topology c.args.held.now c.args.interval c.args.floor c.in-Some.name first in
+    purge-known c.args.book.now c.args.held.now c.in-Some.name c.args.interval c.args.floor c.requires.at_work c.requires.floor first
+    may.2
+
+-- and has forgotten
+pub returns-in_ok-purged-in-Some-clause-asked : goal.returns-in_ok-purged-in-Some-clause-asked
+returns-in_ok-purged-in-Some-clause-asked g c =
+    let first : IsToPurge c.args.book.now.case.topology (worker_of c.args.held.now) c.args.interval 1 c.args.floor (Some c.in-Some.name) =
+    search rules in
+    purge-asked c.args.book.now c.purge_row-purged.new.book c.args.held.now c.in-Some.name c.args.interval c.args.floor first
+    (search rules)
+
+-- a purge that fails was asked for
+pub returns-in_err-purged-in-Some-clause-asking : goal.returns-in_err-purged-in-Some-clause-asking
+returns-in_err-purged-in-Some-clause-asking g c =
+    let first : IsToPurge c.args.book.now.case.topology (worker_of c.args.held.now) c.args.interval 1 c.args.floor (Some c.in-Some.name) =
+    search rules in
+    let may = first-may c.args.book.now.case.topology c.args.held.now c.args.interval c.args.floor c.in-Some.name first in
+    err-any c.from_residual.result (λ why full. (_, may.3))
+
+-- none may be asked to
+pub returns-in-None-clause-asked : goal.returns-in-None-clause-asked
+returns-in-None-clause-asked g c =
+    let none : IsToPurge c.args.book.now.case.topology (worker_of c.args.held.now) c.args.interval 1 c.args.floor None = search rules in
+    asked-none c.args.book.now (MayAskPurge c.args.book.now.case.topology (worker_of c.args.held.now) c.args.interval 1 c.args.floor) none

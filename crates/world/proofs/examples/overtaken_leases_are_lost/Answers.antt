@@ -1,5 +1,0 @@
-use Rattle.std.proofs.Common.{refl}
-use Rattle.world.proofs.examples.overtaken_leases_are_lost.Goals as goal
-
-pub returns : goal.returns
-returns c = record { answers = refl }

@@ -1,6 +1,0 @@
-use Rattle.world.specs.Turns.{IsBestLine, worker_of}
-use Rattle.world.proofs.injecting.next_line.Given as goal
-
--- it is the best of the injectors so far
-abbrev pub invariant-loop-part : goal.invariant-loop-part
-invariant-loop-part l = IsBestLine l.case (worker_of l.held) l.part l.best

@@ -1,6 +1,0 @@
-use Rattle.world.proofs.Leases.{claimed-apart}
-use Rattle.world.proofs.Steps.{step-claimed}
-use Rattle.world.proofs.keeping.leases_are_claims_of_their_workers.Goals as goal
-
-pub returns : goal.returns
-returns c = record { claimed = step-claimed; apart = claimed-apart }

@@ -1,5 +1,0 @@
-use Rattle.world.proofs.Steps.{step-form}
-use Rattle.world.proofs.keeping.steps_keep_workers_and_marks.Goals as goal
-
-pub returns : goal.returns
-returns c = record { form = step-form }

@@ -1,5 +1,0 @@
-use Rattle.world.proofs.OwnerLaws.{done-current, done-overtaken}
-use Rattle.world.proofs.owners.overtaken_owners_are_refused.Goals as goal
-
-pub returns : goal.returns
-returns c = record { current = done-current; overtaken = done-overtaken }

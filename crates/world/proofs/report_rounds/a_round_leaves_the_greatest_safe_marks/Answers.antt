@@ -1,5 +1,0 @@
-use Rattle.world.proofs.RoundLaws.{round-safe, round-greatest}
-use Rattle.world.proofs.report_rounds.a_round_leaves_the_greatest_safe_marks.Goals as goal
-
-pub returns : goal.returns
-returns c = record { safe = round-safe; greatest = round-greatest }

@@ -1,0 +1,24 @@
+-- What the proofs of several functions of `src/scripts` use.
+pub mod Places
+pub mod Messages
+pub mod Leases
+pub mod ScriptDeeds
+pub mod Steps
+pub mod CopyLaws
+pub mod OwnerLaws
+pub mod Fencing
+pub mod deeds
+pub mod WorldStands
+pub mod WorkerLaws
+pub mod ActsOnLaws
+pub mod WorldSteps
+pub mod CrashLaws
+pub mod TakeLaws
+pub mod RunLaws
+pub mod FlightLaws
+pub mod CauseLaws
+pub mod TakeSteps
+pub mod SendSteps
+pub mod StepLaws
+pub mod SendWorlds
+pub mod FullSteps

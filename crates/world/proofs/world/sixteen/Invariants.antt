@@ -1,6 +1,0 @@
-use Rattle.world.specs.WorldDrains.{AreNew}
-use Rattle.world.proofs.world.sixteen.Given as goal
-
--- the workers so far
-abbrev pub invariant-loop-worker : goal.invariant-loop-worker
-invariant-loop-worker l = AreNew l.worker l.nodes.items

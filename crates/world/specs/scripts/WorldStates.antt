@@ -1,0 +1,31 @@
+-- What is seen of a world in which steps are done for real, and which scripted world it is. Own.
+use Rattle.std.specs.Prelude.{List, map, Option}
+use Rattle.std.specs.Option.{option_map}
+use Rattle.book.specs.Books.{BookView}
+use Rattle.book.specs.declared.own_desk.NoNote.{NoNote}
+use Rattle.node.specs.Received.{outgoing_of}
+use Rattle.node.specs.Workers.{NodeView, worker_at}
+use Rattle.node.specs.declared.message.Message.{Message}
+use Rattle.outbox.specs.declared.outgoing.Outgoing.{Outgoing}
+use Rattle.world.specs.scripts.Worlds.{World}
+
+-- the book, the workers by their numbers, and a place for each message that was sent or copied, by its
+-- number: the message with its note while it is in flight, and nothing once it is gone
+pub record WorldState : Type 0 where
+  pub book : BookView
+  pub nodes : List NodeView
+  pub flight : List (Option (Message NoNote))
+
+-- the messages in flight without their notes
+abbrev pub flight_of : List (Option (Message NoNote)) → List (Option Outgoing)
+flight_of flight = map (λ (m : Option (Message NoNote)).
+    option_map (λ (message : Message NoNote). outgoing_of message) m) flight
+
+-- the scripted world that it is: the rows that its workers have cached, and the notes, are left out
+abbrev pub world_of : WorldState → World
+world_of state = record {
+  history = state.book.history;
+  marks = state.book.marks;
+  workers = map worker_at state.nodes;
+  flight = flight_of state.flight;
+}

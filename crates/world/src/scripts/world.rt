@@ -1,0 +1,128 @@
+//! A world in which the steps of a script are done for real: sixteen workers over one book, and the
+//! messages between them.
+ghost use Rattle.std.specs.Prelude.{◌≡◌, [], length, replicate, IfErr, IfOk};
+ghost use Rattle.run_history.specs.Cases.{intervals_of};
+ghost use Rattle.book.specs.Books.{core_of};
+ghost use Rattle.book.specs.Lawful.{IsLawful};
+ghost use Rattle.node.specs.Works.{IsWorkOf};
+ghost use Rattle.world.specs.scripts.Worlds.{empty_world, world_on};
+ghost use Rattle.world.specs.WorldDrains.{AreNew};
+ghost use Rattle.world.specs.scripts.WorldStates.{world_of};
+
+use crate::scripts::flights::Flight;
+use book::{Book, NoNote};
+use computations::Computation;
+use mw_types::NoMemory;
+use node::Node;
+use row_keeper::Keeper;
+use std::alloc::Global;
+use std::marker::Model;
+
+/// Sixteen workers over one book, and the messages between them.
+#[derive(Drop)]
+pub struct World<'a, K: Keeper, C: Computation + Drop> {
+    pub(crate) book: Book<'a, K>,
+    pub(crate) work: C,
+    pub(crate) nodes: Vec<Node<NoNote>>,
+    pub(crate) flight: Flight,
+}
+
+impl<'a, K: Keeper, C: Computation + Drop> Model for World<'a, K, C> {
+    ghost use Rattle.node.specs.Works.{IsWorkOf};
+    ghost use Rattle.world.specs.scripts.Standing.{IsWorld};
+    ghost use Rattle.world.specs.scripts.WorldStates.{WorldState};
+
+    ghost Value = { WorldState };
+
+    ghost view = { λ w. record { book = w.book; nodes = w.nodes.items; flight = w.flight.items } };
+
+    ghost invariant = { λ w. IsWorld (record {
+      book = w.book;
+      nodes = w.nodes.items;
+      flight = w.flight.items;
+    })
+        × IsWorkOf w.book.case.topology (C.has w.work) (C.gives_record w.work) (C.gives_timer w.work) };
+}
+
+/// Want of memory, where a world was to start: what was handed in is handed back.
+#[derive(Drop)]
+pub struct WorldRefusal<'a, K: Keeper, C: Computation + Drop> {
+    /// The book.
+    pub book: Book<'a, K>,
+    /// What the computations do.
+    pub work: C,
+}
+
+impl<'a, K: Keeper, C: Computation + Drop> World<'a, K, C> {
+    /// A world over a book: no worker has anything, and no message is in flight. It is refused only
+    /// for lack of memory.
+    pub fn start(
+        alloc: Global,
+        book: Book<'a, K>,
+        work: C,
+    ) -> Result<World<'a, K, C>, WorldRefusal<'a, K, C>>
+        requires work { IsWorkOf book.case.topology
+            (C.has work) (C.gives_record work) (C.gives_timer work) }
+
+        ensures book { IfOk result (λ world. world.book ≡ book.entry) }
+        ensures begun { IfOk result (λ world.
+            world_of world ≡ world_on book.entry.history book.entry.marks) }
+
+        // Where nothing was written yet it is the world in which scripts begin.
+        ensures empty { IfOk result (λ world. let shape = book.entry.case.topology in
+            book.entry.history ≡ [] →
+            book.entry.marks ≡ replicate (length (intervals_of shape)) 0 →
+            world_of world ≡ empty_world shape) }
+
+        ensures kept_book { IfErr result (λ refusal. refusal.book ≡ book.entry) }
+        ensures kept_work { IfErr result (λ refusal. refusal.work ≡ work) }
+    {
+        match sixteen(alloc) {
+            Ok(nodes) => Ok(World {
+                book,
+                work,
+                nodes,
+                flight: Vec::new(alloc),
+            }),
+            Err(_) => Err(WorldRefusal { book, work }),
+        }
+    }
+
+    /// The book over which the workers stand.
+    pub fn book(&self) -> &Book<'a, K>
+        ensures book { result.now ≡ self.now.book }
+    {
+        &self.book
+    }
+
+    /// What always holds of the book. It does nothing when it runs.
+    pub fn sound(&self)
+        ensures lawful { IsLawful self.now.book.case (core_of self.now.book) }
+    {
+        self.book().history();
+    }
+
+    /// The book, at the end.
+    pub fn into_book(self) -> Book<'a, K>
+        ensures book { result ≡ self.entry.book }
+    {
+        let World {
+            book,
+            work: _,
+            nodes: _,
+            flight: _,
+        } = self;
+        book
+    }
+}
+
+// Sixteen workers that have nothing, by their numbers.
+pub(crate) fn sixteen(alloc: Global) -> Result<Vec<Node<NoNote>>, NoMemory>
+    ensures { IfOk result (λ nodes. AreNew 16 nodes.items) }
+{
+    let mut nodes = Vec::new(alloc);
+    for worker in 0..16 {
+        nodes.push(Node::new(alloc, worker))?;
+    }
+    Ok(nodes)
+}
