@@ -5,7 +5,7 @@ use Rattle.list_lemmas.proofs.Lists.{some_same}
 use Rattle.mw_types.specs.declared.identity.RecordId.{RecordId}
 use Rattle.mw_types.specs.declared.identity.RowName.{RowName}
 use Rattle.mw_types.specs.declared.entry.Entry.{Entry}
-use Rattle.mw_types.specs.declared.entry.Entry.TheVariants.{Claim, Inject, Handle, Fire, Ack, Purge}
+use Rattle.mw_types.specs.declared.entry.Entry.TheVariants.{Ack}
 use Rattle.topology.specs.Shapes.{Shape}
 use Rattle.row_parts.specs.Contents.{found_delivery}
 use Rattle.run_history.specs.Cases.{CaseShape, is_injector, source_of}
@@ -102,11 +102,7 @@ acknowledgement-none case history name id never (Ack seq row i) same may =
       handled = may.may.handled;
       claimed = may.under row refl;
     })))
-acknowledgement-none case history name id never (Claim worker interval) same may = absurd cc
-acknowledgement-none case history name id never (Inject seq part line item) same may = absurd cc
-acknowledgement-none case history name id never (Handle seq row i effects) same may = absurd cc
-acknowledgement-none case history name id never (Fire seq row timer mark effects) same may = absurd cc
-acknowledgement-none case history name id never (Purge seq row floor) same may = absurd cc
+acknowledgement-none case history name id never _ same may = absurd cc
 
 -- the number of a choice
 abbrev pub number_in : Choice → ℕ

@@ -180,14 +180,10 @@ timers-print (t ∷ ts) = ap (λ ds. timer_data t ∷ ds) (timers-print ts)
 
 -- what is not printed of an entry is not in its line
 line-print : (n : ℕ) (e : Entry) → text_of_entry n (as_printed e) ≡ text_of_entry n e
-line-print n (Claim worker interval) = refl
-line-print n (Inject seq part line item) = refl
 line-print n (Handle seq row id effects) =
     ap (λ ds. compact_text (handled_data n seq row (id_data id) (array_data production_data effects.productions)
     (state_data effects.state) (array (items_of ds)))) (timers-print effects.timers)
-line-print n (Fire seq row timer mark effects) = refl
-line-print n (Ack seq row id) = refl
-line-print n (Purge seq row floor) = refl
+line-print n _ = refl
 
 -- the line is that of an entry exactly where it is that of the entry that it gives
 pub given-line : (n : ℕ) (line : List ℕ) (given : Entry) → n < 2 ^ 64 → IsEntry given → entry_guessed line ≡ Some given → (b : Bool)

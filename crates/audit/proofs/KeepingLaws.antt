@@ -15,7 +15,7 @@ use Rattle.mw_types.specs.Orders.{row_cmp}
 use Rattle.mw_types.specs.declared.identity.RowName.{RowName}
 use Rattle.mw_types.specs.declared.delivery.Delivery.{Delivery}
 use Rattle.mw_types.specs.declared.entry.Entry.{Entry}
-use Rattle.mw_types.specs.declared.entry.Entry.TheVariants.{Claim, Inject, Handle, Fire, Ack, Purge}
+use Rattle.mw_types.specs.declared.entry.Entry.TheVariants.{Claim, Handle, Ack, Purge}
 use Rattle.topology.specs.Shapes.{Shape, injectors_of, parts_of, stream_of}
 use Rattle.row_parts.specs.Contents.{Contents, IsId, delivery_cmp, fresh, same_id}
 use Rattle.run_history.specs.Cases.{CaseShape, fresh_of}
@@ -102,12 +102,10 @@ filter-shorter p (x ∷ xs) = let rest = filter-shorter p xs in
 sent-changed : (shape : Shape) (made : List Delivery) (commit : ℕ) (entry : Entry) (row : Contents)
     → drop (length row.pending) (changed entry (deliveries_of shape made commit entry) row).pending ≡ deliveries_of shape made commit entry
 sent-changed shape made commit (Claim worker interval) row = drop_all (length row.pending) row.pending (omega arith)
-sent-changed shape made commit (Inject seq part line item) row = drop-first row.pending _
-sent-changed shape made commit (Handle seq name id effects) row = drop-first row.pending _
-sent-changed shape made commit (Fire seq name timer mark effects) row = drop-first row.pending _
 sent-changed shape made commit (Ack seq name id) row =
     drop_all (length row.pending) _ (filter-shorter (λ (d : Delivery). Rattle.std.specs.Prelude.not (same_id d.id id)) row.pending)
 sent-changed shape made commit (Purge seq name floor) row = drop_all (length row.pending) row.pending (omega arith)
+sent-changed shape made commit _ row = drop-first row.pending _
 
 -- what is pending in a row, there or not
 pub pending-of : (shape : Shape) (rows : List (RowName × Contents)) (name : RowName)
@@ -172,12 +170,8 @@ ids-changed : (entry : Entry) (unhandled sent : List Delivery) → AllByRecursio
 ids-changed entry unhandled sent old new = each-append (λ (d : Delivery). IsId d.id) (still_unhandled entry unhandled) sent (still entry) new
   where
     still : (e : Entry) → AllByRecursion (λ (d : Delivery). IsId d.id) (still_unhandled e unhandled)
-    still (Claim worker interval) = old
-    still (Inject seq part line item) = old
     still (Handle seq row id effects) = each-filter (λ (d : Delivery). IsId d.id) _ unhandled old
-    still (Fire seq row timer mark effects) = old
-    still (Ack seq row id) = old
-    still (Purge seq row floor) = old
+    still _ = old
 
 -- how much work is left once the row that an entry left is put
 left-counted : (case : CaseShape) (history : List Entry) (entry : Entry) (left : NamedRow) (old : Kept) → IsKept case history old
@@ -283,11 +277,7 @@ kept-worked case history entry left old mid new follows may few keeps leaves wor
 run-claimed : (shape : Shape) (run : Run) (entry : Entry) → row_written entry ≡ None
     → ((followed shape run entry).rows ≡ run.rows) × ((followed shape run entry).unhandled ≡ run.unhandled)
 run-claimed shape run (Claim worker interval) none = (refl, append-nil run.unhandled)
-run-claimed shape run (Inject seq part line item) none = absurd cc
-run-claimed shape run (Handle seq row id effects) none = absurd cc
-run-claimed shape run (Fire seq row timer mark effects) none = absurd cc
-run-claimed shape run (Ack seq row id) none = absurd cc
-run-claimed shape run (Purge seq row floor) none = absurd cc
+run-claimed shape run _ none = absurd cc
 
 -- what is kept once a claim has come
 pub kept-claimed : (case : CaseShape) (history : List Entry) (entry : Entry) (old new : Kept) → IsKept case history old

@@ -17,7 +17,7 @@ use Rattle.mw_types.proofs.OrderLaws.{id_cmp-total}
 use Rattle.mw_types.specs.declared.identity.RecordId.{RecordId}
 use Rattle.mw_types.specs.declared.delivery.Delivery.{Delivery}
 use Rattle.mw_types.specs.declared.entry.Entry.{Entry}
-use Rattle.mw_types.specs.declared.entry.Entry.TheVariants.{Claim, Inject, Handle, Fire, Ack, Purge}
+use Rattle.mw_types.specs.declared.entry.Entry.TheVariants.{Handle}
 use Rattle.row_parts.specs.Contents.{delivery_cmp, found_delivery, same_id, without_delivery}
 use Rattle.run_history.specs.Runs.{still_unhandled}
 use Rattle.run_history.proofs.Lookups.{lookup-insert_entry}
@@ -81,13 +81,9 @@ found-without id gone (d ∷ ds) = by_tests (same_id d.id gone) (same_id d.id id
 -- what is taken waits no more
 taken-waiting : (entry : Entry) (unhandled : List Delivery) (old new : List (RecordId × Delivery)) → AreWaiting unhandled old
     → HasTaken entry old new → AreWaiting (still_unhandled entry unhandled) new
-taken-waiting (Claim worker interval) unhandled old new waiting taken id = taken id ∙ waiting id
-taken-waiting (Inject seq part line item) unhandled old new waiting taken id = taken id ∙ waiting id
 taken-waiting (Handle seq row handled effects) unhandled old new waiting taken id =
     taken id ∙ ap (cond (same_id id handled) None) (waiting id) ∙ sym (found-without id handled unhandled)
-taken-waiting (Fire seq row timer mark effects) unhandled old new waiting taken id = taken id ∙ waiting id
-taken-waiting (Ack seq row acknowledged) unhandled old new waiting taken id = taken id ∙ waiting id
-taken-waiting (Purge seq row floor) unhandled old new waiting taken id = taken id ∙ waiting id
+taken-waiting _ unhandled old new waiting taken id = taken id ∙ waiting id
 
 -- ---- more are noted
 

@@ -24,7 +24,7 @@ use Rattle.mw_types.specs.declared.identity.RowName.{RowName}
 use Rattle.mw_types.specs.declared.delivery.Delivery.{Delivery}
 use Rattle.row_parts.specs.Contents.{Contents, delivery_cmp, found_delivery, fresh, same_id, without_delivery}
 use Rattle.mw_types.specs.declared.entry.Entry.{Entry}
-use Rattle.mw_types.specs.declared.entry.Entry.TheVariants.{Claim, Inject, Handle, Fire, Ack, Purge}
+use Rattle.mw_types.specs.declared.entry.Entry.TheVariants.{Handle}
 use Rattle.topology.specs.Shapes.{Shape, parts_of}
 use Rattle.book.specs.declared.answers.NamedRow.{NamedRow}
 use Rattle.run_history.specs.Cases.{fresh_of}
@@ -166,8 +166,6 @@ weight-before shape weigh end part name (Some row) = weight-if weigh end (name.p
 pub sum-still : (f : Delivery → ℕ) (entry : Entry) (waiting : List (RecordId × Delivery)) (unhandled : List Delivery)
     → IsStrictlySortedBy delivery_cmp unhandled → AreWaiting unhandled waiting
     → sum_by f unhandled ≡ sum_by f (still_unhandled entry unhandled) + option_map_or f (taken_by entry waiting) 0
-sum-still f (Claim worker interval) waiting unhandled sorted are = omega arith
-sum-still f (Inject seq part line item) waiting unhandled sorted are = omega arith
 sum-still f (Handle seq row id effects) waiting unhandled sorted are = by_found (found_delivery id unhandled) refl
   where
     none-taken : found_delivery id unhandled ≡ None → sum_by f unhandled ≡ sum_by f (without_delivery id unhandled)
@@ -183,9 +181,7 @@ sum-still f (Handle seq row id effects) waiting unhandled sorted are = by_found 
     by_found (Some d) is =
         let taken : option_map_or f (waiting_in waiting id) 0 ≡ f d = ap (λ o. option_map_or f o 0) (are id ∙ is) in
         let same = sum-taken f id unhandled d sorted is in omega (arith, taken, same)
-sum-still f (Fire seq row timer mark effects) waiting unhandled sorted are = omega arith
-sum-still f (Ack seq row id) waiting unhandled sorted are = omega arith
-sum-still f (Purge seq row floor) waiting unhandled sorted are = omega arith
+sum-still f _ waiting unhandled sorted are = omega arith
 
 -- the work of each part once an entry has come
 pub works-next : (shape : Shape) (entry : Entry) (waiting : List (RecordId × Delivery)) (unhandled sent : List Delivery)

@@ -20,7 +20,7 @@ use Rattle.mw_types.specs.declared.identity.RecordId.{RecordId}
 use Rattle.mw_types.specs.declared.identity.RowName.{RowName}
 use Rattle.mw_types.specs.declared.delivery.Delivery.{Delivery}
 use Rattle.mw_types.specs.declared.entry.Entry.{Entry}
-use Rattle.mw_types.specs.declared.entry.Entry.TheVariants.{Claim, Inject, Handle, Fire, Ack, Purge}
+use Rattle.mw_types.specs.declared.entry.Entry.TheVariants.{Handle}
 use Rattle.topology.specs.Shapes.{Shape, injectors_of, parts_of}
 use Rattle.row_parts.specs.Contents.{Contents, delivery_cmp, found_delivery}
 use Rattle.run_history.specs.Cases.{CaseShape}
@@ -140,8 +140,6 @@ works-kept case history kept keeps =
 pub taken-held : (case : CaseShape) (history : List Entry) (kept : Kept) (entry : Entry) → IsFollowed case history
     → IsKept case history kept → IfSome (taken_by entry kept.waiting.entries)
     (λ d. mark_of d ≢ END → Contains (get_or kept.works.items d.to.part []) (mark_of d))
-taken-held case history kept (Claim worker interval) follows keeps = tt
-taken-held case history kept (Inject seq part line item) follows keeps = tt
 taken-held case history kept (Handle seq row id effects) follows keeps = by_found (waiting_in kept.waiting.entries id) refl
   where
     by_found : (o : Option Delivery) → waiting_in kept.waiting.entries id ≡ o
@@ -151,9 +149,7 @@ taken-held case history kept (Handle seq row id effects) follows keeps = by_foun
         let waits = (waits-kept case history kept id d keeps is).0 in
         held-waiting case.topology (run_of case.topology history).unhandled kept.rows.entries kept.works.items id d
         (waits-ascend case history follows) (works-kept case history kept keeps) waits (reader-there case history id d follows waits).1
-taken-held case history kept (Fire seq row timer mark effects) follows keeps = tt
-taken-held case history kept (Ack seq row id) follows keeps = tt
-taken-held case history kept (Purge seq row floor) follows keeps = tt
+taken-held case history kept _ follows keeps = tt
 
 -- so is the first time of the row that an entry leaves
 pub timed-held : (case : CaseShape) (history : List Entry) (kept : Kept) (entry : Entry) (left : NamedRow) (without : List (List ℕ))
