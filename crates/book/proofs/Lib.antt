@@ -22,3 +22,4 @@ pub mod FirstLaws
 pub mod Begun
 pub mod PutMarks
 pub mod Sending
+pub mod Settlements

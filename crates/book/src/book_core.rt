@@ -1,10 +1,9 @@
 //! All of a book but its case.
-ghost use Rattle.std.specs.Prelude.{◌≡◌, ◌+◌, ◌-◌, ◌++◌, ◌∷◌, ◌<◌, ◌^◌, [], length, max, take, IfSome, None, OnOk, OnErr, Some, option_map, ◌↔◌};
+ghost use Rattle.std.specs.Prelude.{◌≡◌, ◌-◌, ◌++◌, ◌∷◌, ◌<◌, ◌^◌, [], length, max, take, IfOk, IfSome, None, OnOk, OnErr, Some, option_map, ◌↔◌};
 ghost use Rattle.mw_types.specs.Causes.{HasCause};
 ghost use Rattle.mw_types.specs.declared.entry.Entry.TheVariants.{Claim};
 ghost use Rattle.row_parts.specs.Spelling.{IsSpelledRow, spelling_of};
 ghost use Rattle.row_keeper.specs.Rows.{AreInOrder, with_row};
-ghost use Rattle.run_history.specs.Finished.{work_in};
 ghost use Rattle.run_history.specs.Made.{row_written};
 ghost use Rattle.run_history.specs.Fences.{last_claim};
 ghost use Rattle.watermark.specs.Marks.{mark_of};
@@ -12,16 +11,15 @@ ghost use Rattle.book.specs.Marks.{with_mark};
 ghost use Rattle.book.specs.Senders.{sender_of};
 ghost use Rattle.std.specs.BTreeMap.{get};
 ghost use Rattle.std.specs.Ordering.{nat_cmp};
-ghost use Rattle.book.specs.Appending.{KnowsClaims};
+ghost use Rattle.book.specs.Appending.{KnowsClaims, left_row};
 ghost use Rattle.book.specs.Sending.{HasSent, IsAfterEntry, IsLeastKnown, IsUnsent, KnowsSame};
 
 use crate::sender_map::{Senders, forget_sent, note_sent, settle, settled_by};
-use crate::work_left::work_with;
+use crate::settling::{Settled, spell};
 use mw_types::{Entry, NoMemory, RecordId, RowName};
-use record_codec::encode_over;
 use row_keeper::{Keeper, KeeperFault};
 use row_parts::Row;
-use run_history::{Case, History};
+use run_history::History;
 use std::alloc::Global;
 use std::collections::BTreeMap;
 use std::marker::Model;
@@ -51,7 +49,7 @@ impl<K: Keeper> Model for Core<K> {
     ghost use Rattle.std.specs.Ordering.{nat_cmp};
     ghost use Rattle.std.specs.BTreeMap.{get};
     ghost use Rattle.book.specs.Books.{CoreView};
-    ghost use Rattle.book.specs.Appending.{KnowsClaims};
+    ghost use Rattle.book.specs.Appending.{KnowsClaims, left_row};
 
     ghost Value = { CoreView };
 
@@ -77,25 +75,25 @@ impl<K: Keeper> Core<K> {
     }
 
     // Appends an entry on a row, which has made so many deliveries, and stores the bytes of the row that
-    // it leaves, in which so much work was before.
+    // it leaves: of this one, or of what this one is once an id is settled. So much work is left then.
     pub(crate) fn append(
         &mut self,
         alloc: Global,
-        case: &Case,
         entry: Entry,
         name: &RowName,
-        gone: u64,
         row: &Row,
+        settled: Option<Settled>,
+        left: u64,
         sent: u32,
     ) -> Result<(), KeeperFault>
+        requires below { IfSome settled (λ s. s.commit < 2 ^ 32) }
         requires on_row { row_written entry ≡ Some name.now }
         requires unsent { IsUnsent (length self.old.history) self.old.unacknowledged }
         ensures appended { OnOk result (self.new.history ≡ self.old.history ++ entry ∷ []) }
-        ensures stored { OnOk result
-            (self.new.rows ≡ option_map (with_row name.now (spelling_of row.now)) self.old.rows) }
-        ensures own { OnOk result (IsSpelledRow row.now) }
-        ensures left { OnOk result (self.new.work
-            ≡ (self.old.work + work_in case.now name.now row.now) - gone) }
+        ensures stored { let bytes = spelling_of (left_row settled row.now) in
+            OnOk result (self.new.rows ≡ option_map (with_row name.now bytes) self.old.rows) }
+        ensures own { OnOk result (IsSpelledRow (left_row settled row.now)) }
+        ensures left { OnOk result (self.new.work ≡ left) }
         ensures senders { OnOk result (IsAfterEntry (length self.old.history) entry name.now sent
             self.old.unacknowledged self.new.unacknowledged) }
         ensures limit { self.new.limit ≡ self.old.limit }
@@ -108,7 +106,7 @@ impl<K: Keeper> Core<K> {
         ensures failed { HasCause self.old.faults self.new.faults result KeeperFault.Failed }
     {
         let commit = self.history.len() as u64;
-        let settled = settled_by(&entry);
+        let acknowledged = settled_by(&entry);
         note(
             alloc,
             &mut self.history,
@@ -121,17 +119,16 @@ impl<K: Keeper> Core<K> {
             alloc,
             &mut self.keeper,
             &mut self.buffer,
-            &mut self.work,
-            case,
             name,
-            gone,
             row,
+            settled,
         ) {
             forget_sent(&mut self.unacknowledged, commit, sent);
             forget_last(&mut self.history);
             return Err(fault);
         }
-        settle(&mut self.unacknowledged, settled, name);
+        settle(&mut self.unacknowledged, acknowledged, name);
+        self.work = left;
         Ok(())
     }
 
@@ -219,34 +216,26 @@ fn forget_last(history: &mut History)
     drop(history.pop());
 }
 
-// Stores the bytes of a row, made in a buffer that is used again, and counts the work that is left once it
-// stands where so much was.
+// Stores the bytes of a row, or of what it is once an id is settled, made in a buffer that is used again.
 fn store<K: Keeper>(
     alloc: Global,
     keeper: &mut K,
     buffer: &mut Vec<u8>,
-    work: &mut u64,
-    case: &Case,
     name: &RowName,
-    gone: u64,
     row: &Row,
+    settled: Option<Settled>,
 ) -> Result<(), KeeperFault>
-    ensures stored { OnOk result
-        (K.rows keeper.new
-        ≡ option_map (with_row name.now (spelling_of row.now)) (K.rows keeper.old)) }
-    ensures own { OnOk result (IsSpelledRow row.now) }
+    requires below { IfSome settled (λ s. s.commit < 2 ^ 32) }
+    ensures stored { let bytes = spelling_of (left_row settled row.now) in
+        OnOk result (K.rows keeper.new ≡ option_map (with_row name.now bytes) (K.rows keeper.old)) }
+    ensures own { OnOk result (IsSpelledRow (left_row settled row.now)) }
     ensures unchanged { OnErr result (K.rows keeper.new ≡ K.rows keeper.old) }
     ensures failed { HasCause (K.faults keeper.old) (K.faults keeper.new)
         result KeeperFault.Failed }
-    ensures left { OnOk result
-        (work.new ≡ (work.old + work_in case.now name.now row.now) - gone) }
-    ensures same_left { OnErr result (work.new ≡ work.old) }
 {
-    let left = work_with(case, name, gone, row, *work)?;
-    let bytes = encode_over(replace(buffer, Vec::new(alloc)), row)?;
+    let bytes = spell(replace(buffer, Vec::new(alloc)), row, settled)?;
     keeper.put(alloc, name, bytes.as_slice())?;
     *buffer = bytes.into_vec();
-    *work = left;
     Ok(())
 }
 

@@ -20,7 +20,7 @@ use mw_types::{
     Delivery, DeliveryList, Duplicate, Effects, Entry, IdList, NoMemory, Production, RecordId,
     RowName, State, Timer, TimerList,
 };
-use row_parts::{Moves, Parts, Row, deliveries_but, forget_below, is_set, set_timer, take_timer};
+use row_parts::{Moves, Parts, Row, forget_below, is_set, set_timer, take_timer};
 use run_history::Case;
 use std::alloc::Global;
 use std::slice::from_ref;
@@ -304,33 +304,6 @@ fn sending(
         },
         id,
         sent,
-    })
-}
-
-// The change by which a row no longer waits for an id.
-pub(crate) fn settling(
-    alloc: Global,
-    lease: &Lease,
-    name: &RowName,
-    row: &Row,
-    id: RecordId,
-    commit: u64,
-) -> Result<Change, NoMemory>
-    requires { commit < 2 ^ 32 }
-    ensures entry { IfOk result (λ change. change.entry ≡ Ack lease.now.seq name.now id) }
-    ensures may { IfOk result (λ change. MayMove row.now change.moves) }
-    ensures left { IfOk result (λ change. moved change.moves row.now
-        ≡ written_row commit (Ack lease.now.seq name.now id) [] row.now) }
-{
-    let row_name = name.copy(alloc)?;
-    let pending = deliveries_but(alloc, &row.pending, id)?;
-    Ok(Change {
-        entry: Entry::Ack {
-            seq: lease.seq(),
-            row: row_name,
-            id,
-        },
-        moves: list_moves(alloc, row, Some(pending), None, row.floor, commit),
     })
 }
 

@@ -1,6 +1,6 @@
 //! What a proposal writes: its entry, and the row that the entry leaves.
 ghost use Rattle.std.specs.Prelude.{◌≡◌, ◌<◌, ◌^◌, IfOk, true};
-ghost use Rattle.mw_types.specs.declared.entry.Entry.TheVariants.{Fire, Handle};
+ghost use Rattle.mw_types.specs.declared.entry.Entry.TheVariants.{Ack, Fire, Handle};
 ghost use Rattle.row_parts.specs.Changes.{MayMove, moved};
 ghost use Rattle.run_history.specs.Fits.{fits};
 ghost use Rattle.run_history.specs.Made.{produced};
@@ -115,6 +115,22 @@ pub(crate) fn handle_entry(
         row: name.copy(alloc)?,
         id,
         effects: effects.copy(alloc)?,
+    })
+}
+
+// The entry by which an id is settled in a row.
+pub(crate) fn ack_entry(
+    alloc: Global,
+    seq: u64,
+    name: &RowName,
+    id: RecordId,
+) -> Result<Entry, NoMemory>
+    ensures { IfOk result (λ entry. entry ≡ Ack seq name.now id) }
+{
+    Ok(Entry::Ack {
+        seq,
+        row: name.copy(alloc)?,
+        id,
     })
 }
 

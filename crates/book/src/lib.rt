@@ -11,6 +11,7 @@
 #![tactic(auto)]
 
 mod answers;
+mod appending;
 mod book_core;
 mod books;
 mod changes;
@@ -28,6 +29,7 @@ mod refusals;
 mod reports;
 mod rows;
 mod sender_map;
+mod settling;
 mod work_left;
 mod writes;
 

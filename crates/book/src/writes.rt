@@ -1,10 +1,7 @@
 //! Writes: each appends one entry and stores its row, or is refused.
-ghost use Rattle.std.specs.Prelude.{◌≡◌, ◌<◌, ◌-◌, ◌^◌, ◌↔◌, ℕ, None, ◌++◌, ◌∷◌, ◌⊎◌, [], length, take, IfErr, IfOk, IfSome, IsErrOf, OnErr, OnOk, Some};
+ghost use Rattle.std.specs.Prelude.{◌≡◌, ◌<◌, ◌^◌, ◌↔◌, ℕ, None, [], length, take, IfOk, IfSome, IsErrOf, OnErr, OnOk, Some};
 ghost use Rattle.mw_types.specs.Causes.{HasCause};
 ghost use Rattle.mw_types.specs.declared.entry.Entry.TheVariants.{Ack, Purge};
-ghost use Rattle.row_parts.specs.Changes.{MayMove, moved, taken_back};
-ghost use Rattle.row_parts.specs.Contents.{IsRow};
-ghost use Rattle.run_history.specs.Finished.{work_in};
 ghost use Rattle.run_history.specs.Runs.{run_of, written_row};
 ghost use Rattle.run_history.specs.Fences.{IsClaimed, IsCurrent, IsOvertakenBy};
 ghost use Rattle.book.specs.Books.{core_of};
@@ -12,19 +9,18 @@ ghost use Rattle.book.specs.Conditions.{IsRowOf, IsRowSeenAt, MayForgetAt, MaySe
 ghost use Rattle.book.specs.Answers.{HasStayed, IsFullWhere, IsSameBook, IsStaleWhere, IsWritten, answer_of};
 ghost use Rattle.book.specs.Lawful.{IsLawful};
 ghost use Rattle.book.specs.Proposals.{IsProposable, IsProposedOf, IsWrittenBy};
-ghost use Rattle.book.specs.Appending.{HadWork, IsNext, later_than, sent_by};
+ghost use Rattle.book.specs.Appending.{later_than};
 
 use crate::answers::Written;
 use crate::books::Book;
-use crate::changes::{Change, change_of, purging, settling};
+use crate::changes::{change_of, purging};
 use crate::lease::Lease;
 use crate::proposal::Proposal;
 use crate::refusals::WriteRefusal;
-use crate::work_left::work_in;
-use mw_types::{Duplicate, Entry, NoMemory, RecordId, RowName};
+use crate::settling::Settled;
+use mw_types::{Duplicate, RecordId, RowName};
 use row_keeper::Keeper;
-use row_parts::{Moves, Row};
-use run_history::Case;
+use row_parts::Row;
 use std::alloc::Global;
 
 impl<'a, K: Keeper> Book<'a, K> {
@@ -186,10 +182,7 @@ impl<'a, K: Keeper> Book<'a, K> {
             Ok(commit) => commit,
             Err(why) => return Err(why),
         };
-        match settling(alloc, lease, name, row, id, commit) {
-            Ok(made) => self.change_row(alloc, name, row, made),
-            Err(want) => Err(want.into()),
-        }
+        self.settle_row(alloc, lease, name, row, Settled { id, commit })
     }
 
     /// A row forgets the ids of records that are finished: those below the floor.
@@ -322,158 +315,6 @@ impl<'a, K: Keeper> Book<'a, K> {
         let newest = self.core.newest(lease.interval());
         later(lease.seq(), newest)
     }
-
-    // Changes a row, and appends the entry that changes it so, which may come next. The row is as before
-    // where that is refused.
-    fn change_row(
-        &mut self,
-        alloc: Global,
-        name: &RowName,
-        row: &mut Row,
-        change: Change,
-    ) -> Result<u64, WriteRefusal>
-        requires may { MayMove row.old change.moves }
-        requires next { let left = moved change.moves row.old in
-            IsNext self.old.case (core_of self.old) name.now change.entry left }
-        requires sent { let left = moved change.moves row.old in
-            length left.pending - length row.old.pending
-            ≡ sent_by self.old.case.topology self.old.history change.entry }
-        requires was { let old = self.old in
-            IsRowOf old.case old.rows old.history name.now row.old }
-        ensures appended { OnOk result
-            (self.new.history ≡ self.old.history ++ change.entry ∷ []) }
-        ensures commit { IfOk result (λ commit. commit ≡ length self.old.history) }
-        ensures changed { OnOk result (row.new ≡ moved change.moves row.old) }
-        ensures row { OnErr result (row.new ≡ row.old) }
-        ensures refused { IfErr result (λ why.
-            (why ≡ WriteRefusal.NoMemory) ⊎ (why ≡ WriteRefusal.KeeperFault)) }
-        ensures keeper_fault { HasCause self.old.faults self.new.faults result
-            WriteRefusal.KeeperFault }
-        ensures unchanged { OnErr result (HasStayed self.old self.new) }
-        ensures same { IsSameBook self.old self.new }
-    {
-        let Change { entry, moves } = change;
-        let mut moves = moves;
-        let count = count_pending(row);
-        let case = self.case();
-        match applied(alloc, case, name, row, &mut moves) {
-            Ok(gone) => {
-                let done = self.append_moved(alloc, name, gone, entry, row, &mut moves, count);
-                drop(moves);
-                done
-            }
-            Err(NoMemory) => {
-                drop(entry);
-                drop(moves);
-                Err(WriteRefusal::NoMemory)
-            }
-        }
-    }
-
-    // Appends the entry that changed a row, in which so much work was, and so many were pending. Takes the
-    // change back where that is refused.
-    fn append_moved(
-        &mut self,
-        alloc: Global,
-        name: &RowName,
-        gone: u64,
-        entry: Entry,
-        row: &mut Row,
-        moves: &mut Moves,
-        count: usize,
-    ) -> Result<u64, WriteRefusal>
-        requires next { IsNext self.old.case (core_of self.old) name.now entry row.old }
-        requires sent { length row.old.pending - count
-            ≡ sent_by self.old.case.topology self.old.history entry }
-        requires was { HadWork self.old name.now gone }
-        requires back { IsRow (taken_back moves.old count row.old) }
-        ensures appended { OnOk result (self.new.history ≡ self.old.history ++ entry ∷ []) }
-        ensures commit { IfOk result (λ commit. commit ≡ length self.old.history) }
-        ensures kept { OnOk result (row.new ≡ row.old) }
-        ensures back { OnErr result (row.new ≡ taken_back moves.old count row.old) }
-        ensures refused { IfErr result (λ why.
-            (why ≡ WriteRefusal.NoMemory) ⊎ (why ≡ WriteRefusal.KeeperFault)) }
-        ensures keeper_fault { HasCause self.old.faults self.new.faults result
-            WriteRefusal.KeeperFault }
-        ensures unchanged { OnErr result (HasStayed self.old self.new) }
-        ensures same { IsSameBook self.old self.new }
-    {
-        let sent = sent_since(row, count);
-        match self.append_row(alloc, name, gone, entry, row, sent) {
-            Ok(commit) => Ok(commit),
-            Err(why) => {
-                row.take_back(alloc, moves, count);
-                Err(why)
-            }
-        }
-    }
-
-    // Appends an entry that may come next and makes so many deliveries, and stores its row, in which so
-    // much work was before. Answers the commit number.
-    fn append_row(
-        &mut self,
-        alloc: Global,
-        name: &RowName,
-        gone: u64,
-        entry: Entry,
-        row: &Row,
-        sent: u32,
-    ) -> Result<u64, WriteRefusal>
-        requires next { IsNext self.old.case (core_of self.old) name.now entry row.now }
-        requires sent { sent ≡ sent_by self.old.case.topology self.old.history entry }
-        requires was { HadWork self.old name.now gone }
-        ensures appended { OnOk result (self.new.history ≡ self.old.history ++ entry ∷ []) }
-        ensures commit { IfOk result (λ commit. commit ≡ length self.old.history) }
-        ensures refused { IfErr result (λ why.
-            (why ≡ WriteRefusal.NoMemory) ⊎ (why ≡ WriteRefusal.KeeperFault)) }
-        ensures keeper_fault { HasCause self.old.faults self.new.faults result
-            WriteRefusal.KeeperFault }
-        ensures unchanged { OnErr result (HasStayed self.old self.new) }
-        ensures same { IsSameBook self.old self.new }
-    {
-        let commit = self.core.history.len() as u64;
-        let case = self.case;
-        match self.core.append(alloc, case, entry, name, gone, row, sent) {
-            Ok(()) => Ok(commit),
-            Err(fault) => Err(fault.into()),
-        }
-    }
-}
-
-// How many are pending in a row. It can be kept, as each row can.
-fn count_pending(row: &Row) -> usize
-    ensures count { result ≡ length row.now.pending }
-    ensures row { IsRow row.now }
-{
-    row.sound();
-    row.pending.len()
-}
-
-// How many are pending in a row more than so many.
-fn sent_since(row: &Row, count: usize) -> u32
-    ensures { result ≡ length row.now.pending - count }
-{
-    row.pending.len().saturating_sub(count) as u32
-}
-
-// Changes a row, and answers how much work was in it.
-fn applied(
-    alloc: Global,
-    case: &Case,
-    name: &RowName,
-    row: &mut Row,
-    moves: &mut Moves,
-) -> Result<u64, NoMemory>
-    requires { MayMove row.old moves.old }
-    ensures gone { IfOk result (λ gone. gone ≡ work_in case.now name.now row.old) }
-    ensures ok { OnOk result (row.new ≡ moved moves.old row.old) }
-    ensures back { OnOk result
-        (taken_back moves.new (length row.old.pending) row.new ≡ row.old) }
-    ensures err { OnErr result (row.new ≡ row.old) }
-{
-    let gone = work_in(case, name, row)?;
-    row.apply(alloc, moves)?;
-    Ok(gone)
 }
 
 // The last claim, where it is later than this one.

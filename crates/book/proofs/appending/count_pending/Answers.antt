@@ -1,4 +1,4 @@
-use Rattle.book.proofs.writes.count_pending.Goals as goal
+use Rattle.book.proofs.appending.count_pending.Goals as goal
 
 -- what always holds of a row
 pub returns-clause-row : goal.returns-clause-row

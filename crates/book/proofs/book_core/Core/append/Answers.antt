@@ -4,6 +4,7 @@ use Rattle.std.specs.Ordering.{nat_cmp}
 use Rattle.std.specs.BTreeMap.{get}
 use Rattle.row_parts.specs.Spelling.{spelling_of}
 use Rattle.row_keeper.specs.Rows.{with_row}
+use Rattle.book.specs.Appending.{left_row}
 use Rattle.book.specs.Books.{CoreView}
 use Rattle.book.specs.Sending.{IsUnsent}
 use Rattle.book.proofs.ClaimLaws.{KnowsClaims-row}
@@ -25,4 +26,4 @@ note-requires g c = record {
 pub returns-clause-stored : goal.returns-clause-stored
 returns-clause-stored g c =
     c.in_default.ensures.stored
-    ∙ ap (λ (b : CoreView). option_map (with_row c.args.name.now (spelling_of c.args.row.now)) b.rows) c.self.view_is
+    ∙ ap (λ (b : CoreView). option_map (with_row c.args.name.now (spelling_of (left_row c.args.settled c.args.row.now))) b.rows) c.self.view_is

@@ -1,49 +1,14 @@
-use Rattle.std.proofs.Common.{◌≡◌, ◌+◌, ◌-◌, List, ap, subst, sym, ◌∙◌}
-use Rattle.std.specs.Prelude.{IfSome}
-use Rattle.run_history.specs.Runs.{run_of, row_of}
-use Rattle.mw_types.specs.declared.entry.Entry.{Entry}
+use Rattle.std.proofs.Common.{◌-◌, ◌+◌, ap, ◌∙◌}
 use Rattle.run_history.specs.Finished.{work_in}
-use Rattle.book.specs.Books.{BookView, core_of}
-use Rattle.book.specs.Appending.{IsNext, sent_by}
-use Rattle.book.specs.Senders.{AreSenders}
-use Rattle.book.proofs.Keeping.{IsLawful-next, IsLawful-stays}
-use Rattle.book.proofs.SenderSteps.{senders-next, senders-unsent}
-use Rattle.book.proofs.books.Book.append_row.Goals.{in-Ok, in-Err}
 use Rattle.book.proofs.books.Book.append_row.Goals as goal
 
--- the entry may come next, and its row was stored; or nothing was appended
-pub invariant_of-self : goal.invariant_of-self
-invariant_of-self g c = elim c.match-append.branch [
-  | in-Ok w ↦
-      IsLawful-next c.self.inside.case.now c.self.inside.core c.append.new.self c.args.name.now c.args.entry c.requires.was.0 c.args.row.now
-      c.self.invariant
-      (subst (λ (b : BookView). IsNext b.case (core_of b) c.args.name.now c.args.entry c.args.row.now) (sym c.self.view_is)
-      c.requires.next)
-      w.in-Ok.ensures.own
-      (subst (λ (b : BookView). IfSome b.rows (λ _. c.requires.was.0 ≡ row_of b.case.topology
-      (run_of b.case.topology b.history) c.args.name.now)) (sym c.self.view_is) c.requires.was.1.0)
-      (w.in-Ok.ensures.left
-      ∙ (λ i. (c.self.inside.core.work + work_in (c.self-inside.view_is i).case.now c.args.name.now c.args.row.now) - c.args.gone)
-      ∙ ap (λ n. (c.self.inside.core.work + work_in c.self.inside.case.now c.args.name.now c.args.row.now) - n)
-      (c.requires.was.1.1 ∙ ap (λ (b : BookView). work_in b.case c.args.name.now c.requires.was.0) (sym c.self.view_is)))
-      w.in-Ok.ensures.appended
-      w.in-Ok.ensures.stored
-      c.append.ensures.limit
-      (subst (λ (h : List Entry). AreSenders c.self.inside.case.now.topology
-      (run_of c.self.inside.case.now.topology h) c.append.new.self.unacknowledged)
-      (sym w.in-Ok.ensures.appended)
-      (senders-next c.self.inside.case.now.topology c.self.inside.core.history c.args.entry c.args.name.now c.args.sent
-      c.self.inside.core.unacknowledged c.append.new.self.unacknowledged c.requires.next.on_row
-      (subst (λ (b : BookView). c.args.sent ≡ sent_by b.case.topology b.history c.args.entry) (sym c.self.view_is) c.requires.sent)
-      c.self.invariant.senders w.in-Ok.ensures.senders))
-      c.append.ensures.marks
-  | in-Err w ↦
-      IsLawful-stays c.self.inside.case.now c.self.inside.core c.append.new.self c.self.invariant
-      w.in-Err.ensures.history w.in-Err.ensures.rows c.append.ensures.limit w.in-Err.ensures.same_left
-      w.in-Err.ensures.same_senders c.append.ensures.marks
-]
-
--- nothing is known of the entry that comes
-pub append-requires-clause-unsent : goal.append-requires-clause-unsent
-append-requires-clause-unsent g c =
-    senders-unsent c.self.inside.case.now.topology c.self.inside.core.history c.self.inside.core.unacknowledged c.self.invariant.senders
+-- so much work is left after the row of the history
+pub append_left-requires-clause-left : goal.append_left-requires-clause-left
+append_left-requires-clause-left g c =
+    let book = c.args.self.now in (
+      c.requires.was.0,
+      (
+        c.requires.was.1.0,
+        c.in-Ok.ensures ∙ ap (λ gone. (book.work + work_in book.case c.args.name.now c.args.row.now) - gone) c.requires.was.1.1,
+      ),
+    )

@@ -1,15 +1,8 @@
-use Rattle.std.proofs.Common.{◌≡◌, [], length, ap, refl, subst, sym, arith, ◌∙◌}
-use Rattle.mw_types.specs.declared.entry.Entry.{Entry}
+use Rattle.std.proofs.Common.{[], length, ap, refl, ◌∙◌}
 use Rattle.mw_types.specs.declared.entry.Entry.TheVariants.{Ack}
-use Rattle.std.specs.Prelude.{◌-◌, not}
 use Rattle.std.proofs.lemmas.Result.{on_ok_weaker}
-use Rattle.mw_types.specs.declared.delivery.Delivery.{Delivery}
-use Rattle.list_lemmas.proofs.Lists.{length-filter}
-use Rattle.row_parts.specs.Contents.{Contents, IsId, same_id}
-use Rattle.row_parts.specs.Changes.{moved}
-use Rattle.book.specs.Books.{core_of}
+use Rattle.row_parts.specs.Contents.{IsId}
 use Rattle.run_history.specs.Runs.{written_row}
-use Rattle.book.specs.Appending.{IsNext, sent_by}
 use Rattle.book.proofs.ClaimLaws.{stale-again}
 use Rattle.book.proofs.LineLaws.{found-id}
 use Rattle.book.proofs.SeenRows.{IsNext-settled, IsWritten-result, row-was, when-written, claimed-whole}
@@ -20,51 +13,40 @@ pub returns-in-Err-clause-stale : goal.returns-in-Err-clause-stale
 returns-in-Err-clause-stale g c = stale-again c.args.self.now.history c.args.lease.now c.in-Err.why c.in-Err.ensures.stale
 
 -- the entry may come next
-pub change_row-requires : goal.change_row-requires
-change_row-requires g c =
+pub settle_row-requires : goal.settle_row-requires
+settle_row-requires g c =
     let entry = Ack c.args.lease.now.seq c.args.name.now c.args.id in
     let is : IsId c.args.id = found-id c.args.id c.args.row.now.pending
     c.sound.ensures.pending.each c.requires.id.pending in
-    let same : c.in-Ok-settling.made.entry ≡ entry
-    = c.in-Ok-settling.ensures.entry in
-    let left = moved c.in-Ok-settling.made.moves c.args.row.now in
-    let leaves : left ≡ written_row (length c.args.self.now.history) entry [] c.args.row.now
-    = c.in-Ok-settling.ensures.left ∙ ap (λ n. written_row n entry [] c.args.row.now) c.in-Ok.ensures.commit in record {
-      may = c.in-Ok-settling.ensures.may;
-      next = subst (λ (e : Entry). IsNext c.args.self.now.case (core_of c.args.self.now) c.args.name.now e left) (sym same)
-          (IsNext-settled c.args.self.now c.args.lease.now c.args.front c.args.name.now c.args.row.now left c.args.id
-          c.admit.ensures.lawful c.requires.lease c.requires.row c.requires.id c.in-Ok.ensures.last c.in-Ok.ensures.room is leaves);
-      sent = subst (λ (e : Entry). length left.pending - length c.args.row.now.pending
-          ≡ sent_by c.args.self.now.case.topology c.args.self.now.history e) (sym same) (omega (
-            arith,
-            ap (λ (r : Contents). length r.pending) leaves,
-            length-filter (λ (d : Delivery). not (same_id d.id c.args.id)) c.args.row.now.pending,
-          ));
+    let left = written_row c.in-Ok.commit entry [] c.args.row.now in record {
+      next = IsNext-settled c.args.self.now c.args.lease.now c.args.front c.args.name.now c.args.row.now left c.args.id
+          c.admit.ensures.lawful c.requires.lease c.requires.row c.requires.id c.in-Ok.ensures.last c.in-Ok.ensures.room is
+          (ap (λ n. written_row n entry [] c.args.row.now) c.in-Ok.ensures.commit);
       was = row-was c.args.self.now c.args.lease.now c.args.front c.args.name.now c.args.row.now c.admit.ensures.lawful c.requires.lease
           c.requires.row c.in-Ok.ensures.last;
+      pending = c.requires.id.pending;
+      commit = c.in-Ok.ensures.commit;
+      below = c.in-Ok.ensures.below;
     }
 
 -- what was appended is the entry
-pub returns-in-Ok-settling-clause-written : goal.returns-in-Ok-settling-clause-written
-returns-in-Ok-settling-clause-written g c =
+pub returns-clause-written : goal.returns-clause-written
+returns-clause-written g c =
     let entry = Ack c.args.lease.now.seq c.args.name.now c.args.id in
     let is : IsId c.args.id = found-id c.args.id c.args.row.now.pending
     c.sound.ensures.pending.each c.requires.id.pending in
-    let same : c.in-Ok-settling.made.entry ≡ entry
-    = c.in-Ok-settling.ensures.entry in
-    let left = moved c.in-Ok-settling.made.moves c.args.row.now in
-    let leaves : left ≡ written_row (length c.args.self.now.history) entry [] c.args.row.now
-    = c.in-Ok-settling.ensures.left ∙ ap (λ n. written_row n entry [] c.args.row.now) c.in-Ok.ensures.commit in
-    IsWritten-result c.args.self.now c.change_row.new.self c.args.lease.now c.args.name.now entry _
-    (written_row (length c.args.self.now.history) entry [] c.args.row.now) c.change_row.new.row c.change_row.result
-    (IsNext-settled c.args.self.now c.args.lease.now c.args.front c.args.name.now c.args.row.now _ c.args.id
+    let left = written_row (length c.args.self.now.history) entry [] c.args.row.now in
+    IsWritten-result c.args.self.now c.settle_row.new.self c.args.lease.now c.args.name.now entry entry
+    left c.settle_row.new.row c.settle_row.result
+    (IsNext-settled c.args.self.now c.args.lease.now c.args.front c.args.name.now c.args.row.now left c.args.id
     c.admit.ensures.lawful c.requires.lease c.requires.row c.requires.id c.in-Ok.ensures.last c.in-Ok.ensures.room is refl)
-    c.in-Ok.ensures.last same c.change_row.ensures.appended c.change_row.ensures.commit
-    (on_ok_weaker c.change_row.result (λ changed. changed ∙ leaves) c.change_row.ensures.changed)
+    c.in-Ok.ensures.last refl c.settle_row.ensures.appended c.settle_row.ensures.commit
+    (on_ok_weaker c.settle_row.result (λ changed. changed ∙ ap (λ n. written_row n entry [] c.args.row.now) c.in-Ok.ensures.commit)
+    c.settle_row.ensures.changed)
 
 -- the row that was handed in was the history's
-pub returns-in-Ok-settling-clause-found : goal.returns-in-Ok-settling-clause-found
-returns-in-Ok-settling-clause-found g c = when-written c.change_row.result
+pub returns-clause-found : goal.returns-clause-found
+returns-clause-found g c = when-written c.settle_row.result
     (row-was c.args.self.now c.args.lease.now c.args.front c.args.name.now c.args.row.now c.admit.ensures.lawful
     c.requires.lease c.requires.row c.in-Ok.ensures.last)
 
