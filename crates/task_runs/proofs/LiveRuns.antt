@@ -20,13 +20,13 @@ use Rattle.plans.specs.declared.step.Step.{Step}
 use Rattle.world.specs.scripts.ScriptRuns.{IsRunning}
 use Rattle.world.specs.scripts.Stepping.{HasActed}
 use Rattle.world.specs.scripts.WorldStates.{WorldState, world_of}
-use Rattle.world.proofs.scripts.RunLaws.{faulted-history, run-begun, run-more}
+use Rattle.world.proofs.RunLaws.{faulted-history, run-begun, run-more}
 use Rattle.world.specs.drains.Turns.{HasFailed, HasGone, WhereTold, with_own}
 use Rattle.world.specs.drains.Drains.{HasEnded, IsDraining, IsNextEntry}
 use Rattle.world.specs.drains.DrainTurns.{DrainView, HasDrained, IsGoingOn}
-use Rattle.world.proofs.drains.DrainTurnLaws.{going-failed, going-full}
-use Rattle.world.proofs.drains.WholeDrains.{draining-push}
-use Rattle.world.proofs.drains.GoLaws.{gone-not, gone-step}
+use Rattle.world.proofs.DrainTurnLaws.{going-failed, going-full}
+use Rattle.world.proofs.WholeDrains.{draining-push}
+use Rattle.world.proofs.GoLaws.{gone-not, gone-step}
 use Rattle.live_outlet.specs.Outlets.{IsPumpedFrom, OutletView}
 use Rattle.live_outlet.proofs.Pumping.{pumped-grown}
 use Rattle.task_runs.specs.declared.live.LiveFault.{LiveFault}

@@ -1,3 +1,7 @@
 pub mod Firsts
 pub mod Results
 pub mod StartedWorlds
+pub mod DrainTurnLaws
+pub mod GoLaws
+pub mod WholeDrains
+pub mod RunLaws

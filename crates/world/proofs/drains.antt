@@ -1,6 +1,5 @@
 -- What the proofs of several functions of `src/drains` use.
 pub mod OneStep
-pub mod WholeDrains
 pub mod FirstItems
 pub mod NextLaws
 pub mod ThereLaws
@@ -17,7 +16,6 @@ pub mod LeastWorkLaws
 pub mod InjectLaws
 pub mod PurgeLaws
 pub mod FireLaws
-pub mod GoLaws
 pub mod ReportLaws
 pub mod FedLaws
 pub mod CallLaws
@@ -26,4 +24,3 @@ pub mod PurgeLoop
 pub mod FireLoop
 pub mod DrainLaws
 pub mod FullLaws
-pub mod DrainTurnLaws

@@ -14,7 +14,6 @@ pub mod ActsOnLaws
 pub mod WorldSteps
 pub mod CrashLaws
 pub mod TakeLaws
-pub mod RunLaws
 pub mod FlightLaws
 pub mod CauseLaws
 pub mod TakeSteps

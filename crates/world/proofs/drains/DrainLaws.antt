@@ -24,7 +24,7 @@ use Rattle.world.specs.drains.Standings.{IsFound}
 use Rattle.world.specs.drains.Turns.{HasAskedOne, HasStepped, HasTurned, WhereTold, is_finished_at, sent_at}
 use Rattle.world.proofs.drains.EndLaws.{injected-finished}
 use Rattle.world.proofs.drains.LawfulRows.{lawful-rows}
-use Rattle.world.proofs.drains.GoLaws.{fact-back, fact-on, stayed-turn, told-on}
+use Rattle.world.proofs.GoLaws.{fact-back, fact-on, stayed-turn, told-on}
 use Rattle.world.proofs.drains.LeastWorkLaws.{forget-turned, found-handled, sent-id, sent-to}
 
 -- ---- where the rows are told

@@ -15,7 +15,7 @@ use Rattle.worked_examples.specs.Drained.{drained_history, injector_row, id_of}
 use Rattle.book.specs.Senders.{IsPendingIn}
 use Rattle.world.specs.drains.Drains.{is_full, IsDue, HasClaimedAll, HasAcknowledged, HasFired, IsNextAck, IsNextHandle, IsNextFire, IsNextInject, IsLastPurge, IsNextEntry, IsDraining, IsDrained}
 use Rattle.world.proofs.drains.Tried.{is_alone, alone-least, is_none_due, none-due, is_due_alone, due-alone, alone-first, seen-alone, none-seen}
-use Rattle.world.proofs.drains.WholeDrains.{draining-first, draining-push}
+use Rattle.world.proofs.WholeDrains.{draining-first, draining-push}
 
 -- the first so many entries
 abbrev before : ℕ → List Entry

@@ -15,7 +15,7 @@ use Rattle.outbox.specs.Messages.{IsComputation}
 use Rattle.node.specs.Workers.{NodeView}
 use Rattle.world.specs.drains.Turns.{AreExact, HasAskedOne, HasStepped, HasTurned, IsAtWork, IsQuiet, IsQuietAt, IsSettled}
 use Rattle.world.proofs.drains.FireLaws.{fire-quiet, fire-turned}
-use Rattle.world.proofs.drains.GoLaws.{fact-back, fact-on, told-on, turned-on}
+use Rattle.world.proofs.GoLaws.{fact-back, fact-on, told-on, turned-on}
 use Rattle.world.proofs.drains.LawfulRows.{lawful-rows}
 use Rattle.world.proofs.drains.PurgeLoop.{asked-stayed}
 use Rattle.world.proofs.drains.ThereLaws.{timer-computation, timer-part}

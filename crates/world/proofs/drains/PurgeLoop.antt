@@ -12,7 +12,7 @@ use Rattle.book.specs.Lawful.{IsLawful}
 use Rattle.node.specs.Asking.{MayAskPurge, Request}
 use Rattle.node.specs.Workers.{NodeView}
 use Rattle.world.specs.drains.Turns.{HasAsked, HasAskedOne, HasStepped, HasTurned, IsAtWork, IsEmptied, IsEndOf, IsInjected, IsQuiet, IsSettled}
-use Rattle.world.proofs.drains.GoLaws.{fact-back, fact-on, told-on, turned-on}
+use Rattle.world.proofs.GoLaws.{fact-back, fact-on, told-on, turned-on}
 use Rattle.world.proofs.drains.PurgeLaws.{purge-emptied, purge-ended, purge-turned}
 use Rattle.world.proofs.drains.TurnLaws.{stepped-not, stepped-on}
 

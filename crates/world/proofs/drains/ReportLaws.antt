@@ -23,7 +23,7 @@ use Rattle.holdings.proofs.OwnLaws.{own_work-known}
 use Rattle.node.specs.Workers.{NodeView}
 use Rattle.world.specs.drains.ReportRounds.{marks_after_round, with_report}
 use Rattle.world.specs.drains.Turns.{HasReported, HasStepped, IsAtWork, IsOwnOf, worker_of}
-use Rattle.world.proofs.drains.GoLaws.{told-on}
+use Rattle.world.proofs.GoLaws.{told-on}
 use Rattle.world.proofs.drains.HeldLaws.{if-held}
 use Rattle.world.proofs.drains.KnownLaws.{told-fact}
 use Rattle.world.proofs.drains.Marked.{mark-same}

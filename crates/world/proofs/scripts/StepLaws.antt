@@ -17,7 +17,7 @@ use Rattle.world.specs.scripts.Stepping.{HasFaulted}
 use Rattle.world.specs.drains.Turns.{with_own}
 use Rattle.world.specs.scripts.WorkerCalls.{HasGoneOn, IsAlone}
 use Rattle.world.specs.scripts.WorldStates.{WorldState, world_of}
-use Rattle.world.proofs.scripts.RunLaws.{faulted-history}
+use Rattle.world.proofs.RunLaws.{faulted-history}
 
 -- one entry at the end, if there is one
 own-listed : (own : Option Entry) (history : List Entry) → with_own own history ≡ history ++ option_to_list own

@@ -4,7 +4,7 @@ use Rattle.list_lemmas.proofs.Told.{on_ok-map}
 use Rattle.book.specs.Books.{BookView}
 use Rattle.world.specs.drains.Drains.{HasEnded, IsDraining}
 use Rattle.world.specs.drains.Turns.{HasGone, WhereTold}
-use Rattle.world.proofs.drains.DrainTurnLaws.{whole-draining, whole-ended, whole-unended}
+use Rattle.world.proofs.DrainTurnLaws.{whole-draining, whole-ended, whole-unended}
 use Rattle.live_outlet.specs.Outlets.{IsPumpedFrom}
 use Rattle.task_runs.specs.Lives.{GoesOnBy, LivesOn, pumped_from}
 use Rattle.task_runs.specs.Inside.{HasLiveCause, StopsLive}

@@ -6,7 +6,7 @@ use Rattle.world.proofs.Results.{err-then}
 use Rattle.run_history.specs.Cases.{CaseShape}
 use Rattle.live_outlet.specs.Outlets.{IsPumpedFrom}
 use Rattle.world.specs.scripts.WorldStates.{world_of}
-use Rattle.world.proofs.scripts.RunLaws.{begins-one, run-none}
+use Rattle.world.proofs.RunLaws.{begins-one, run-none}
 use Rattle.task_runs.specs.Inside.{HasLiveCause, StopsStep}
 use Rattle.task_runs.proofs.LiveLines.{writing-all, writing-none, writing-step}
 use Rattle.task_runs.proofs.LiveRuns.{cause-before, pumped-step, step-begun, step-more, stopped-step}

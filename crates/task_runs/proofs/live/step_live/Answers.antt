@@ -4,7 +4,7 @@ use Rattle.mw_types.specs.declared.entry.Entry.{Entry}
 use Rattle.run_history.specs.Cases.{CaseShape}
 use Rattle.live_outlet.specs.Outlets.{IsPumpedFrom}
 use Rattle.world.specs.scripts.WorldStates.{world_of}
-use Rattle.world.proofs.scripts.RunLaws.{begins-one, faulted-history}
+use Rattle.world.proofs.RunLaws.{begins-one, faulted-history}
 use Rattle.task_runs.specs.declared.live.LiveFault.{LiveFault}
 use Rattle.task_runs.specs.declared.live.LiveFault.TheVariants as lives
 use Rattle.task_runs.specs.Lives.{GoesOnBy, IsCutBehind, IsPumpedTo, StepsOn, stepped_from}

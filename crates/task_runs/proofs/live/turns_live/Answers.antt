@@ -1,8 +1,8 @@
 use Rattle.std.proofs.Common.{◌≡◌, rules, arith, subst, sym}
 use Rattle.std.specs.Prelude.{IfErr}
 use Rattle.world.specs.drains.DrainTurns.{HasDrained}
-use Rattle.world.proofs.drains.DrainTurnLaws.{going-ended, going-first, going-on}
-use Rattle.world.proofs.drains.GoLaws.{gone-step}
+use Rattle.world.proofs.DrainTurnLaws.{going-ended, going-first, going-on}
+use Rattle.world.proofs.GoLaws.{gone-step}
 use Rattle.world.proofs.Results.{err-then}
 use Rattle.run_history.specs.Cases.{CaseShape}
 use Rattle.live_outlet.specs.Outlets.{IsPumpedFrom}

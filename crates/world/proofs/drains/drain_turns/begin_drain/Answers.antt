@@ -1,6 +1,6 @@
 use Rattle.std.proofs.Common.{refl, rules}
 use Rattle.book.specs.OwnDesks.{own_view}
-use Rattle.world.proofs.drains.DrainTurnLaws.{under_way-first}
+use Rattle.world.proofs.DrainTurnLaws.{under_way-first}
 use Rattle.world.proofs.drains.HeldLaws.{worker-fits}
 use Rattle.world.proofs.drains.drain_turns.begin_drain.Goals as goal
 

@@ -1,7 +1,7 @@
 use Rattle.std.proofs.Common.{refl, subst, sym, true}
 use Rattle.world.specs.drains.DrainTurns.{DrainView, HasDrained, IsAtClaim}
 use Rattle.world.specs.drains.Turns.{worker_of}
-use Rattle.world.proofs.drains.DrainTurnLaws.{claim-drained, claim-under_way, claim-unended}
+use Rattle.world.proofs.DrainTurnLaws.{claim-drained, claim-under_way, claim-unended}
 use Rattle.world.proofs.Results.{err-any}
 use Rattle.world.proofs.drains.drain_turns.claim_next.Goals as goal
 

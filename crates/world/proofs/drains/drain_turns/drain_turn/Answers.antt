@@ -1,4 +1,4 @@
-use Rattle.world.proofs.drains.DrainTurnLaws.{drained-nearer}
+use Rattle.world.proofs.DrainTurnLaws.{drained-nearer}
 use Rattle.world.proofs.Results.{ok-then}
 use Rattle.world.proofs.drains.drain_turns.drain_turn.Goals as goal
 

@@ -1,6 +1,6 @@
 use Rattle.std.proofs.Common.{◌≡◌, ◌-◌, arith, rules}
 use Rattle.topology.specs.Rules.{interval_count}
-use Rattle.world.proofs.drains.DrainTurnLaws.{under_way-claim, under_way-past}
+use Rattle.world.proofs.DrainTurnLaws.{under_way-claim, under_way-past}
 use Rattle.world.proofs.drains.drain_turns.next_claim.Goals as goal
 
 -- an interval is left to claim

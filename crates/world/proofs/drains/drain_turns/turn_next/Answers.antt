@@ -1,7 +1,7 @@
 use Rattle.std.proofs.Common.{refl, subst, sym}
 use Rattle.world.specs.drains.DrainTurns.{DrainView, IsPastClaims}
 use Rattle.world.specs.drains.Turns.{worker_of}
-use Rattle.world.proofs.drains.DrainTurnLaws.{turn-drained, turn-under_way, turn-unended}
+use Rattle.world.proofs.DrainTurnLaws.{turn-drained, turn-under_way, turn-unended}
 use Rattle.world.proofs.Results.{err-then, ok-both, ok-then}
 use Rattle.world.proofs.drains.drain_turns.turn_next.Goals as goal
 

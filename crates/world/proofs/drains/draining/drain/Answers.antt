@@ -1,5 +1,5 @@
 use Rattle.world.proofs.drains.DrainLaws.{ended-finished}
-use Rattle.world.proofs.drains.DrainTurnLaws.{whole-draining, whole-ended, whole-unended}
+use Rattle.world.proofs.DrainTurnLaws.{whole-draining, whole-ended, whole-unended}
 use Rattle.world.proofs.Results.{ok-then}
 use Rattle.world.proofs.drains.draining.drain.Goals as goal
 

@@ -1,8 +1,8 @@
 use Rattle.std.proofs.Common.{rules, subst}
 use Rattle.std.specs.Prelude.{None}
 use Rattle.world.specs.drains.DrainTurns.{HasDrained}
-use Rattle.world.proofs.drains.DrainTurnLaws.{going-ended, going-failed, going-first, going-full, going-on}
-use Rattle.world.proofs.drains.GoLaws.{gone-step}
+use Rattle.world.proofs.DrainTurnLaws.{going-ended, going-failed, going-first, going-full, going-on}
+use Rattle.world.proofs.GoLaws.{gone-step}
 use Rattle.world.proofs.drains.draining.turn_all.Goals as goal
 
 -- the drain begins to turn

@@ -2,7 +2,7 @@ use Rattle.std.proofs.Common.{false, refl, rules}
 use Rattle.std.specs.Prelude.{None, Some}
 use Rattle.topology.specs.Shapes.{injectors_of}
 use Rattle.world.specs.drains.Turns.{IsBestLine, worker_of}
-use Rattle.world.proofs.drains.GoLaws.{turned-stayed}
+use Rattle.world.proofs.GoLaws.{turned-stayed}
 use Rattle.world.proofs.drains.FullLaws.{line-unended}
 use Rattle.world.proofs.drains.InjectLaws.{inject-none, inject-turned}
 use Rattle.world.proofs.Results.{err-then, ok-then}

@@ -1,5 +1,5 @@
 use Rattle.std.proofs.Common.{length, arith}
-use Rattle.world.proofs.drains.WholeDrains.{one_rest}
+use Rattle.world.proofs.WholeDrains.{one_rest}
 use Rattle.world.proofs.drains.laws.drained_histories_are_one.Goals as goal
 
 pub returns : goal.returns

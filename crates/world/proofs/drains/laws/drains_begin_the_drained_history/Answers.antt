@@ -1,4 +1,4 @@
-use Rattle.world.proofs.drains.WholeDrains.{drained-begun}
+use Rattle.world.proofs.WholeDrains.{drained-begun}
 use Rattle.world.proofs.drains.laws.drains_begin_the_drained_history.Goals as goal
 
 pub returns : goal.returns

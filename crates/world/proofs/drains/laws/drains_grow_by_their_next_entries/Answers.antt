@@ -1,4 +1,4 @@
-use Rattle.world.proofs.drains.WholeDrains.{draining-first, draining-push}
+use Rattle.world.proofs.WholeDrains.{draining-first, draining-push}
 use Rattle.world.proofs.drains.laws.drains_grow_by_their_next_entries.Goals as goal
 
 pub returns : goal.returns

@@ -3,7 +3,7 @@ use Rattle.std.specs.Prelude.{IfErr, None, Some}
 use Rattle.node.specs.declared.outcome.NodeFault.TheVariants as faults
 use Rattle.world.specs.drains.Turns.{sent_at, worker_of}
 use Rattle.world.proofs.drains.DrainLaws.{found-least}
-use Rattle.world.proofs.drains.GoLaws.{turned-stayed}
+use Rattle.world.proofs.GoLaws.{turned-stayed}
 use Rattle.world.proofs.Results.{err-then}
 use Rattle.world.proofs.drains.LeastWorkLaws.{pending-sent, sent-own}
 use Rattle.world.proofs.drains.TurnLaws.{failed-not, stepped-not}

@@ -4,7 +4,7 @@ use Rattle.node.specs.declared.outcome.NodeFault.TheVariants as faults
 use Rattle.world.specs.drains.Turns.{IsEndOf, IsSettled}
 use Rattle.world.proofs.drains.DrainLaws.{told-fact-back}
 use Rattle.world.proofs.drains.FullLaws.{full-not, unended-back}
-use Rattle.world.proofs.drains.GoLaws.{fact-on, failed-on, round-exact, turned-on}
+use Rattle.world.proofs.GoLaws.{fact-on, failed-on, round-exact, turned-on}
 use Rattle.world.proofs.Results.{err-then, ok-then}
 use Rattle.world.proofs.drains.turns.go_on.Goals as goal
 

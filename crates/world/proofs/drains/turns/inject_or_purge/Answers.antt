@@ -2,7 +2,7 @@ use Rattle.std.proofs.Common.{subst}
 use Rattle.world.specs.drains.Turns.{HasTurned, IsEndOf, IsInjected, IsQuiet, IsSettled}
 use Rattle.world.proofs.drains.DrainLaws.{no-more, told-fact-back, told-fact-on}
 use Rattle.world.proofs.drains.FullLaws.{unended-back}
-use Rattle.world.proofs.drains.GoLaws.{fact-on, failed-on, turned-on}
+use Rattle.world.proofs.GoLaws.{fact-on, failed-on, turned-on}
 use Rattle.world.proofs.Results.{err-then, ok-then}
 use Rattle.world.proofs.drains.turns.inject_or_purge.Goals as goal
 

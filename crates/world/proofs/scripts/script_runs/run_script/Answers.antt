@@ -2,7 +2,7 @@ use Rattle.std.proofs.Common.{rules}
 use Rattle.std.specs.Prelude.{drop}
 use Rattle.list_lemmas.proofs.Told.{if-there}
 use Rattle.plans.specs.declared.step.Step.TheVariants as steps
-use Rattle.world.proofs.scripts.RunLaws.{faulted-history, run-begun, run-stopped}
+use Rattle.world.proofs.RunLaws.{faulted-history, run-begun, run-stopped}
 use Rattle.world.proofs.scripts.script_runs.run_script.Goals as goal
 
 -- after a fault the history begins what the script writes

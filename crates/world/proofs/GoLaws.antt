@@ -28,7 +28,7 @@ use Rattle.world.specs.drains.Turns.{AreExact, HasFailed, HasFirst, HasGone, Has
 use Rattle.world.proofs.drains.RoundLaws.{round-low}
 use Rattle.world.proofs.drains.LawfulRows.{lawful-rows}
 use Rattle.world.proofs.drains.TurnLaws.{free-of, held-leased, lease-held, sending-none, stepped-on}
-use Rattle.world.proofs.drains.WholeDrains.{draining-first, draining-push}
+use Rattle.world.proofs.WholeDrains.{draining-first, draining-push}
 
 -- ---- a step in which nothing was appended
 

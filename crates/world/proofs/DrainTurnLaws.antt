@@ -17,8 +17,8 @@ use Rattle.node.specs.declared.outcome.NodeFault.TheVariants as faults
 use Rattle.world.specs.drains.Drains.{HasClaimedAll, HasEnded, IsDraining, IsNextEntry}
 use Rattle.world.specs.drains.Turns.{HasStepped, HasTaken, HasTurned, HasFailed, IsAtWork, IsClaiming, IsFullUnended, IsNextIn, WhereTold, with_own}
 use Rattle.world.specs.drains.DrainTurns.{DrainView, IsPastClaims, IsUnderWay, HasDrained, IsAtClaim, IsFullBefore, IsGoingOn}
-use Rattle.world.proofs.drains.GoLaws.{claims-first, claims-on, claims-all, gone-not, gone-step}
-use Rattle.world.proofs.drains.WholeDrains.{draining-first, draining-push}
+use Rattle.world.proofs.GoLaws.{claims-first, claims-on, claims-all, gone-not, gone-step}
+use Rattle.world.proofs.WholeDrains.{draining-first, draining-push}
 
 -- ---- where a drain is
 
