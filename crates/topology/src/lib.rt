@@ -10,11 +10,13 @@
 mod extraction;
 mod file_parts;
 mod file_rules;
+mod folding;
 mod grammar;
 mod parts;
 mod publishers;
 mod reader;
 mod refusal;
+mod routes;
 mod sample;
 mod subscription;
 mod topology;
@@ -22,7 +24,9 @@ mod wiring;
 
 pub use extraction::extract;
 pub use file_rules::is_name;
+pub use folding::Folded;
 pub use reader::read;
 pub use refusal::TopologyRefusal;
+pub use routes::Routes;
 pub use subscription::{By, Subscription};
 pub use topology::Topology;

@@ -6,6 +6,7 @@ ghost use Rattle.topology.specs.Answers.{IsFull};
 
 use crate::file_parts::{FileParts, parts_in};
 use crate::file_rules::check;
+use crate::folding::is_foldable;
 use crate::grammar::shape_in;
 use crate::refusal::{ShapeRefusal, TopologyRefusal};
 use crate::topology::Topology;
@@ -37,6 +38,9 @@ fn topology_in(alloc: Global, file: &FileParts) -> Result<Topology, TopologyRefu
 {
     check(alloc, file)?;
     let parts = parts_in(alloc, file)?;
+    if !is_foldable(alloc, &parts)? {
+        return Err(TopologyRefusal::BadWeak);
+    }
     Ok(Topology::of(alloc, parts)?)
 }
 

@@ -22,6 +22,9 @@ pub enum TopologyRefusal {
     BadNumber,
     /// A cut has not 1 to 256 bytes, or the cuts of a computation do not ascend.
     BadCuts,
+    /// Nothing reads the stream of a weak computation, or without the weak ones there are more than 64
+    /// readings.
+    BadWeak,
     /// Memory ran out.
     NoMemory,
 }
