@@ -41,27 +41,27 @@ each_of-all form P holds (item value rest) xs e =
     at_some (All P) (first.0 ∷ others.0) xs others.2
     (All-cons P first.0 others.0 (holds value first.0 first.1) (each_of-all form P holds rest others.0 others.1))
 
--- the readings of a computation are those that were found, and so is whether it is weak
-all_stated : (kind : Kind) (n : Option (List ℕ)) (r : Option (List Reading)) (s : Option (List ℕ)) (k : Option (List (List ℕ)))
-    (w : Option Bool) (c : ComputationShape)
-    → and_then n (λ name. and_then r (λ reads. and_then s (λ stream. and_then k (λ cuts. and_then w (λ weak.
+-- a computation has the kind, the readings and the weakness that were found
+all_stated : (kind : Kind) (w : Option Bool) (n : Option (List ℕ)) (r : Option (List Reading)) (s : Option (List ℕ))
+    (k : Option (List (List ℕ))) (c : ComputationShape)
+    → and_then w (λ weak. and_then n (λ name. and_then r (λ reads. and_then s (λ stream. and_then k (λ cuts.
     Some (record { name = name; kind = kind; reads = reads; stream = stream; cuts = cuts; weak = weak })))))) ≡ Some c
     → (r ≡ Some c.reads) × (w ≡ Some c.weak) × (kind ≡ c.kind)
-all_stated kind None r s k w c e = absurd (none-some c e)
-all_stated kind (Some n) None s k w c e = absurd (none-some c e)
-all_stated kind (Some n) (Some r) None k w c e = absurd (none-some c e)
-all_stated kind (Some n) (Some r) (Some s) None w c e = absurd (none-some c e)
-all_stated kind (Some n) (Some r) (Some s) (Some k) None c e = absurd (none-some c e)
-all_stated kind (Some n) (Some r) (Some s) (Some k) (Some w) c e =
+all_stated kind None n r s k c e = absurd (none-some c e)
+all_stated kind (Some w) None r s k c e = absurd (none-some c e)
+all_stated kind (Some w) (Some n) None s k c e = absurd (none-some c e)
+all_stated kind (Some w) (Some n) (Some r) None k c e = absurd (none-some c e)
+all_stated kind (Some w) (Some n) (Some r) (Some s) None c e = absurd (none-some c e)
+all_stated kind (Some w) (Some n) (Some r) (Some s) (Some k) c e =
     at_some (λ (c : ComputationShape). (Some r ≡ Some c.reads) × (Some w ≡ Some c.weak) × (kind ≡ c.kind)) _ c e (refl, refl, refl)
 
--- a computation states these
+-- so it has what its value states
 computation_in-stated : (value : Data) (c : ComputationShape) → computation_in value ≡ Some c
     → (reads_in value ≡ Some c.reads) × (weak_in c.kind value ≡ Some c.weak)
 computation_in-stated value c e =
     let kind = and_then-some (kind_in value) (computation_of_kind value) c e in
-    let stated = all_stated kind.0 (text_in (codes "name") value) (reads_in value)
-    (text_in (codes "stream") value) (cuts_in value) (weak_in kind.0 value) c
+    let stated = all_stated kind.0 (weak_in kind.0 value) (text_in (codes "name") value) (reads_in value)
+    (text_in (codes "stream") value) (cuts_in value) c
     (if-some (has_members (members_of kind.0 value) value) _ c kind.2) in
     (stated.0, ap (λ k. weak_in k value) (sym stated.2) ∙ stated.1)
 
@@ -72,12 +72,13 @@ computation_in-reads value c e =
     let listed = and_then-some reads some_of c.reads (computation_in-stated value c e).0 in
     some_of-some listed.0 c.reads listed.2
 
--- only a pass is weak
+-- a kind that may be weak is that of a pass
 weak-pass : (kind : Kind) (value : Data) → weak_in kind value ≡ Some true → kind ≡ Pass
 weak-pass (Count size) value e = absurd (true≢false (sym (some_same false true e)))
 weak-pass (Spike last times) value e = absurd (true≢false (sym (some_same false true e)))
 weak-pass Pass value e = refl
 
+-- so a weak computation is a pass
 computation_in-pass : (value : Data) (c : ComputationShape) → computation_in value ≡ Some c → c.weak ≡ true → c.kind ≡ Pass
 computation_in-pass value c e weak = weak-pass c.kind value ((computation_in-stated value c e).1 ∙ ap Some weak)
 

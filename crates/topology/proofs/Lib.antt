@@ -9,3 +9,4 @@ pub mod Forms
 pub mod FoldLaws
 pub mod ReadOrder
 pub mod WhatIsLeft
+pub mod FewWays

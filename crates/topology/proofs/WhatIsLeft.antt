@@ -1,12 +1,12 @@
--- What is left of a topology without its weak computations is a topology.
-use Rattle.std.proofs.Common.{◌≡◌, ℕ, zero, suc, ◌+◌, ◌-◌, ◌<◌, ◌≤◌, Bool, true, false, cond, not, ◌&&◌, ◌||◌, nat_eq, nat_le, nat_lt, List, [], ◌∷◌, ◌++◌, length, map, take, sum_by, slice_get, unwrap_or, option_map, Option, Some, None, All, Contains, true≢false, refl, sym, ◌∙◌, ap, subst, arith, append_assoc, length-append}
-use Rattle.std.specs.List.{flat_map, enumerate_from, list_any, list_all, AllByRecursion}
-use Rattle.std.specs.Cmp.Lexicographic.{pointwise, bytes_decides}
-use Rattle.std.proofs.lemmas.Bool.{and_parts, leb-true, ltb-false}
+-- What folding leaves of a topology is a topology.
+use Rattle.std.proofs.Common.{◌≡◌, ℕ, zero, suc, ◌+◌, ◌-◌, ◌≤◌, Bool, true, false, cond, not, ◌&&◌, ◌||◌, nat_le, nat_lt, List, [], ◌∷◌, ◌++◌, length, map, take, sum_by, slice_get, unwrap_or, option_map, Option, None, All, Contains, true≢false, refl, sym, ◌∙◌, ap, subst, arith, append_assoc, length-append}
+use Rattle.std.specs.List.{flat_map, list_any, list_all, AllByRecursion}
+use Rattle.std.specs.Cmp.Lexicographic.{bytes_decides}
+use Rattle.std.proofs.lemmas.Bool.{and_parts, or_parts, not-true, leb-true}
 use Rattle.std.proofs.lemmas.Bool.Decides.{nat_tests}
 use Rattle.std.proofs.lemmas.List.{append-nil, length-map}
-use Rattle.std.proofs.lemmas.List.Elements.{All-nil, All-weaker, All-from_recursion, recursion_from_All}
-use Rattle.std.proofs.lemmas.List.Folds.{list_all-append}
+use Rattle.std.proofs.lemmas.List.Elements.{All-nil, All-from_recursion, recursion_from_All}
+use Rattle.std.proofs.lemmas.List.Folds.{list_all-append, list_any-append}
 use Rattle.std.proofs.lemmas.List.Sums.{sum_by-cons}
 use Rattle.std.proofs.lemmas.Map.Views.{Contains-from_any, list_any-from_Contains}
 use Rattle.std.proofs.lemmas.Cmp.{nat_list_eq_equiv}
@@ -14,42 +14,38 @@ use Rattle.mw_types.specs.declared.kind.Kind.TheVariants.{Pass}
 use Rattle.std.proofs.Math.Seq.{take-append_seam}
 use Rattle.mw_types.specs.Kinds.{IsKind}
 use Rattle.mw_types.specs.declared.kind.Kind.{Kind}
-use Rattle.topology.specs.Shapes.{Shape, InjectorShape, ComputationShape, Reading, injectors_of, parts_of, streams_of, reads_of, computation_of}
-use Rattle.topology.specs.Rules.{IsTopology, AreCutKeys, IsPassWhereWeak, is_name, all_differ, names_of, interval_count}
-use Rattle.topology.specs.FileRules.{reads_among, reads_above}
+use Rattle.topology.specs.Shapes.{Shape, InjectorShape, ComputationShape, Reading, injectors_of, streams_of, reads_of}
+use Rattle.topology.specs.Rules.{IsTopology, AreCutKeys, IsPassWhereWeak, is_name, all_differ}
+use Rattle.topology.specs.FileRules.{reads_among}
 use Rattle.list_lemmas.proofs.Lists.{each-map, each-weaker}
-use Rattle.list_lemmas.proofs.Tests.{both_true}
-use Rattle.topology.specs.Ways.{ReadSome, few_of}
-use Rattle.std.specs.Option.{option_and_then}
-use Rattle.topology.specs.Folding.{Way, Strong, way_of, way_past, way_through, strong_through, weak_count, left_of, strong_from, strong_as, way_count, are_reading, is_read, are_weak_read, is_foldable, folded}
+use Rattle.topology.specs.Folding.{Way, Strong, way_of, strong_through, weak_count, left_of, strong_from, strong_as, way_count, is_read, are_weak_read, is_foldable, folded}
 use Rattle.topology.proofs.FoldLaws.{reading_through, through, strong_ones, left-strong}
-use Rattle.topology.proofs.ReadOrder.{is}
-use Rattle.topology.proofs.ReadOrder.{streams_by, ReadBefore, names-next, any-append, any-more, denied, neither, is-itself}
+use Rattle.topology.proofs.ReadOrder.{is, streams_by, ReadBefore, names-next, any-more}
 
--- ---- lists of what is left
+-- ---- what folding keeps of each computation
 
 module _ {Y : Type 0} (f : ComputationShape → Y) (own : (w c : ComputationShape) → f (through w c) ≡ f c) where
-  -- what computations have through a weak one
+  -- a computation has the same through a weak one
   own-through : (w : ComputationShape) (cs : List ComputationShape) → map f (map (through w) cs) ≡ map f cs
   own-through w [] = refl
   own-through w (c ∷ cs) = λ i. own w c i ∷ own-through w cs i
 
-  -- what all pass those pass that are left
+  -- a test that all pass, those pass that are left
   pub all-left : (p : Y → Bool) (cs : List ComputationShape) → list_all p (map f cs) ≡ true → list_all p (map f (strong_ones cs)) ≡ true
   all-left p [] e = refl
   all-left p (c ∷ cs) e =
-      let both = both_true (p (f c)) (list_all p (map f cs)) e in
+      let both = and_parts (p (f c)) (list_all p (map f cs)) e in
       let rest = all-left p cs both.1 in
       elim c.weak as (λ b. list_all p (map f (cond b (map (through c) (strong_ones cs)) (c ∷ strong_ones cs))) ≡ true) [
         | true ↦ ap (list_all p) (own-through c (strong_ones cs)) ∙ rest
         | false ↦ (λ i. both.0 i && rest i)
       ]
 
-  -- what one that is left passes, one of all passes
+  -- a test that none passes, none passes that is left
   any-left : (p : Y → Bool) (cs : List ComputationShape) → list_any p (map f cs) ≡ false → list_any p (map f (strong_ones cs)) ≡ false
   any-left p [] e = refl
   any-left p (c ∷ cs) e =
-      let both = neither (p (f c)) (list_any p (map f cs)) e in
+      let both = or_parts (p (f c)) (list_any p (map f cs)) e in
       let rest = any-left p cs both.1 in
       elim c.weak as (λ b. list_any p (map f (cond b (map (through c) (strong_ones cs)) (c ∷ strong_ones cs))) ≡ false) [
         | true ↦ ap (list_any p) (own-through c (strong_ones cs)) ∙ rest
@@ -66,27 +62,27 @@ module _ {Y : Type 0} (f : ComputationShape → Y) (own : (w c : ComputationShap
         | false ↦ (each.0, each-left P cs each.1)
       ]
 
--- texts that differ, differ where some are left
+-- where the texts of all differ, those of what is left differ
 pub differ-left : (f : ComputationShape → List ℕ) → ((w c : ComputationShape) → f (through w c) ≡ f c) → (before : List (List ℕ))
     (cs : List ComputationShape) → all_differ (before ++ map f cs) ≡ true → all_differ (before ++ map f (strong_ones cs)) ≡ true
 differ-left f own [] [] e = refl
 differ-left f own [] (c ∷ cs) e =
-    let both = both_true (not (list_any (is (f c)) (map f cs))) (all_differ (map f cs)) e in
+    let both = and_parts (not (list_any (is (f c)) (map f cs))) (all_differ (map f cs)) e in
     let rest = differ-left f own [] cs both.1 in
     elim c.weak as (λ b. all_differ (map f (cond b (map (through c) (strong_ones cs)) (c ∷ strong_ones cs))) ≡ true) [
       | true ↦ ap all_differ (own-through f own c (strong_ones cs)) ∙ rest
-      | false ↦ (λ i. not (any-left f own (is (f c)) cs (denied (list_any (is (f c)) (map f cs)) both.0) i) && rest i)
+      | false ↦ (λ i. not (any-left f own (is (f c)) cs (not-true (list_any (is (f c)) (map f cs)) both.0) i) && rest i)
     ]
 differ-left f own (x ∷ before) cs e =
-    let both = both_true (not (list_any (is x) (before ++ map f cs))) (all_differ (before ++ map f cs)) e in
-    let none = neither (list_any (is x) before) (list_any (is x) (map f cs))
-    (sym (any-append x before (map f cs)) ∙ denied (list_any (is x) (before ++ map f cs)) both.0) in
-    (λ i. not ((any-append x before (map f (strong_ones cs)) ∙ (λ j. none.0 j || any-left f own (is x) cs none.1 j)) i)
+    let both = and_parts (not (list_any (is x) (before ++ map f cs))) (all_differ (before ++ map f cs)) e in
+    let none = or_parts (list_any (is x) before) (list_any (is x) (map f cs))
+    (sym (list_any-append (is x) before (map f cs)) ∙ not-true (list_any (is x) (before ++ map f cs)) both.0) in
+    (λ i. not ((list_any-append (is x) before (map f (strong_ones cs)) ∙ (λ j. none.0 j || any-left f own (is x) cs none.1 j)) i)
     && differ-left f own before cs both.1 i)
 
--- ---- numbers of what is left
+-- ---- how much is left
 
--- no more are left
+-- a sum over what is left is at most that over all
 few-left : (g : ComputationShape → ℕ) → ((w c : ComputationShape) → g (through w c) ≡ g c) → (cs : List ComputationShape)
     → sum_by g (strong_ones cs) ≤ sum_by g cs
 few-left g own [] = omega arith
@@ -100,7 +96,7 @@ few-left g own (c ∷ cs) = by (few-left g own cs) c.weak
     by rest true = omega (arith, rest, through-same (strong_ones cs), sum_by-cons g c cs)
     by rest false = omega (arith, rest, sum_by-cons g c (strong_ones cs), sum_by-cons g c cs)
 
--- so many are left
+-- at most all are left
 count-left : (cs : List ComputationShape) → length (strong_ones cs) ≤ length cs
 count-left [] = omega arith
 count-left (c ∷ cs) = by (count-left cs) c.weak
@@ -109,9 +105,9 @@ count-left (c ∷ cs) = by (count-left cs) c.weak
     by rest true = omega (arith, rest, length-map (strong_ones cs) (through c))
     by rest false = omega (arith, rest)
 
--- ---- what is read
+-- ---- what is left reads something, and only what stands before it
 
--- readings go on to something
+-- each reading becomes one at least
 reads-through : (w : ComputationShape) → 1 ≤ length w.reads → (rs : List Reading) → length rs ≤ length (flat_map (reading_through w) rs)
 reads-through w some [] = omega arith
 reads-through w some (r ∷ rs) =
@@ -123,7 +119,7 @@ reads-through w some (r ∷ rs) =
         omega (arith, some, length-map w.reads f)
     one false = omega arith
 
--- each that is left reads something
+-- where all read something, those read something that are left
 each-reads : (cs : List ComputationShape) → AllByRecursion (λ (c : ComputationShape). 1 ≤ length c.reads) cs
     → AllByRecursion (λ (c : ComputationShape). 1 ≤ length c.reads) (strong_ones cs)
 each-reads [] each = tt
@@ -135,26 +131,26 @@ each-reads (c ∷ cs) each =
       | false ↦ (each.0, each-reads cs each.1)
     ]
 
--- tests of two lists of readings
+-- of two lists of readings each is of these names, and so is each of both
 among-append : (names : List (List ℕ)) (rs qs : List Reading) → reads_among names rs ≡ true → reads_among names qs ≡ true
     → reads_among names (rs ++ qs) ≡ true
 among-append names rs qs one other =
     list_all-append (λ (r : Reading). list_any (is r.stream) names) rs qs ∙ (λ i. one i && other i)
 
--- what a weak one reads, by another extractor
+-- readings of these names are of more names too, by whatever extractor
 among-by : (names rest : List (List ℕ)) (f : Reading → Reading) → ((q : Reading) → (f q).stream ≡ q.stream) → (qs : List Reading)
     → reads_among names qs ≡ true → reads_among (names ++ rest) (map f qs) ≡ true
 among-by names rest f same [] e = refl
 among-by names rest f same (q ∷ qs) e =
-    let both = both_true (list_any (is q.stream) names) (reads_among names qs) e in
+    let both = and_parts (list_any (is q.stream) names) (reads_among names qs) e in
     (λ i. (ap (λ s. list_any (is s) (names ++ rest)) (same q) ∙ any-more q.stream names rest both.0) i && among-by names rest f same qs both.1 i)
 
--- readings through a weak one are of what is left
+-- readings through a weak computation need no longer know its stream
 among-through : (w : ComputationShape) (before rest : List (List ℕ)) → reads_among before w.reads ≡ true → (rs : List Reading)
     → reads_among ((before ++ w.stream ∷ []) ++ rest) rs ≡ true → reads_among (before ++ rest) (flat_map (reading_through w) rs) ≡ true
 among-through w before rest known [] e = refl
 among-through w before rest known (r ∷ rs) e =
-    let both = both_true (list_any (is r.stream) ((before ++ w.stream ∷ []) ++ rest)) (reads_among ((before ++ w.stream ∷ []) ++ rest) rs) e in
+    let both = and_parts (list_any (is r.stream) ((before ++ w.stream ∷ []) ++ rest)) (reads_among ((before ++ w.stream ∷ []) ++ rest) rs) e in
     among-append (before ++ rest) (reading_through w r) (flat_map (reading_through w) rs) (one both.0 (is r.stream w.stream) refl)
     (among-through w before rest known rs both.1)
   where
@@ -167,11 +163,11 @@ among-through w before rest known (r ∷ rs) e =
         → reads_among (before ++ rest) (cond b (map (λ (q : Reading). record { stream = q.stream; by = r.by }) w.reads) (r ∷ [])) ≡ true
     one among true same = among-by before rest (λ (q : Reading). record { stream = q.stream; by = r.by }) (λ q. refl) w.reads known
     one among false other =
-        ap (λ b. b && true) (any-append r.stream before rest
+        ap (λ b. b && true) (list_any-append (is r.stream) before rest
         ∙ either (list_any (is r.stream) before) (is r.stream w.stream) (list_any (is r.stream) rest) other
-        (sym (any-append r.stream (before ++ w.stream ∷ []) rest ∙ ap (λ b. b || list_any (is r.stream) rest) (any-append r.stream before (w.stream ∷ []))) ∙ among))
+        (sym (list_any-append (is r.stream) (before ++ w.stream ∷ []) rest ∙ ap (λ b. b || list_any (is r.stream) rest) (list_any-append (is r.stream) before (w.stream ∷ []))) ∙ among))
 
--- so they are in order
+-- so computations through it read only what stands before them, without it
 order-through : (w : ComputationShape) (before rest : List (List ℕ)) → reads_among before w.reads ≡ true → (ds : List ComputationShape)
     → ReadBefore ((before ++ w.stream ∷ []) ++ rest) ds → ReadBefore (before ++ rest) (map (through w) ds)
 order-through w before rest known [] reads = tt
@@ -182,7 +178,7 @@ order-through w before rest known (d ∷ ds) reads = (
       (subst (λ l. ReadBefore l ds) (append_assoc (before ++ w.stream ∷ []) rest (d.stream ∷ [])) reads.1)),
 )
 
--- what is left reads only what stands before it
+-- where each reads only what stands before it, so does each that is left
 pub order-left : (names : List (List ℕ)) (cs : List ComputationShape) → ReadBefore names cs → ReadBefore names (strong_ones cs)
 order-left names [] reads = tt
 order-left names (c ∷ cs) reads =
@@ -194,20 +190,20 @@ order-left names (c ∷ cs) reads =
       | false ↦ (reads.0, rest)
     ]
 
--- ---- what a topology reads, as one fact for each computation
+-- ---- the same said by part, as a topology has it
 
--- what a computation at a place reads
+-- what the computation at a place reads, or nothing
 abbrev reads_at : List ComputationShape → ℕ → List Reading
 reads_at cs k = unwrap_or (option_map (λ (c : ComputationShape). c.reads) (slice_get cs k)) []
 
--- what is read of names
+-- readings whose streams are among names
 among-contained : (names : List (List ℕ)) (rs : List Reading) → AllByRecursion (λ (r : Reading). Contains names r.stream) rs
     → reads_among names rs ≡ true
 among-contained names [] each = refl
 among-contained names (r ∷ rs) each =
     λ i. list_any-from_Contains nat_list_eq_equiv r.stream names each.0 i && among-contained names rs each.1 i
 
--- computations whose readings are published before them
+-- computations that read, place by place, only what stands before them
 order-from : (names : List (List ℕ)) (cs : List ComputationShape)
     → ((k : ℕ) → All (λ (r : Reading). Contains (take (length names + k) (names ++ streams_by cs)) r.stream) (reads_at cs k))
     → ReadBefore names cs
@@ -217,8 +213,8 @@ order-from names (c ∷ cs) above = (
       (recursion_from_All (λ (r : Reading). Contains names r.stream) c.reads
       (subst (λ l. All (λ (r : Reading). Contains l r.stream) c.reads) here (above 0))),
   order-from (names ++ c.stream ∷ []) cs (λ k.
-  subst (λ n. All (λ (r : Reading). Contains (take n ((names ++ c.stream ∷ []) ++ streams_by cs)) r.stream) (reads_at cs k)) (there k)
-  (subst (λ l. All (λ (r : Reading). Contains (take (length names + suc k) l) r.stream) (reads_at cs k)) (names-next names c cs) (above (suc k)))),
+      subst (λ n. All (λ (r : Reading). Contains (take n ((names ++ c.stream ∷ []) ++ streams_by cs)) r.stream) (reads_at cs k)) (there k)
+      (subst (λ l. All (λ (r : Reading). Contains (take (length names + suc k) l) r.stream) (reads_at cs k)) (names-next names c cs) (above (suc k)))),
 )
   where
     and-nothing : (n : ℕ) → n + 0 ≡ n
@@ -230,14 +226,14 @@ order-from names (c ∷ cs) above = (
     there : (k : ℕ) → length names + suc k ≡ length (names ++ c.stream ∷ []) + k
     there k = omega (arith, length-append names (c.stream ∷ []))
 
--- a part behind the injectors
+-- a part behind the injectors reads what the computation at its place reads
 reads_of-at : (shape : Shape) (k : ℕ) → reads_of shape (injectors_of shape + k) ≡ reads_at shape.computations k
 reads_of-at shape k =
     let past : nat_lt (injectors_of shape + k) (injectors_of shape) ≡ false = grind (arith, nat_tests) in
     let back : injectors_of shape + k - injectors_of shape ≡ k = omega arith in
     λ i. unwrap_or (option_map (λ (c : ComputationShape). c.reads) (cond (past i) None (slice_get shape.computations (back i)))) []
 
--- the streams of injectors
+-- what the injectors publish
 abbrev pub injected_streams : Shape → List (List ℕ)
 injected_streams shape = map (λ (i : InjectorShape). i.stream) shape.injectors
 
@@ -252,14 +248,14 @@ topology-order shape is_topology =
     counted : (k : ℕ) → injectors_of shape + k ≡ length (injected_streams shape) + k
     counted k = ap (λ n. n + k) (sym (length-map shape.injectors (λ (i : InjectorShape). i.stream)))
 
--- what is read of names is among them
+-- readings of names have their streams among these
 contained-among : (names : List (List ℕ)) (rs : List Reading) → reads_among names rs ≡ true → AllByRecursion (λ (r : Reading). Contains names r.stream) rs
 contained-among names [] e = tt
 contained-among names (r ∷ rs) e =
-    let both = both_true (list_any (is r.stream) names) (reads_among names rs) e in
+    let both = and_parts (list_any (is r.stream) names) (reads_among names rs) e in
     (Contains-from_any (λ x y. (bytes_decides x y).0) r.stream names both.0, contained-among names rs both.1)
 
--- and back
+-- place by place, computations read only what stands before them
 order-above : (names : List (List ℕ)) (cs : List ComputationShape) → ReadBefore names cs → (k : ℕ)
     → All (λ (r : Reading). Contains (take (length names + k) (names ++ streams_by cs)) r.stream) (reads_at cs k)
 order-above names [] reads k = All-nil _
@@ -280,14 +276,14 @@ order-above names (c ∷ cs) reads (suc k) =
     there : length names + suc k ≡ length (names ++ c.stream ∷ []) + k
     there = omega (arith, length-append names (c.stream ∷ []))
 
--- an injector reads nothing
+-- what is asked of a part's readings is asked of computations alone, since an injector has none
 for_part : (is_injector : Bool) (c : Option ComputationShape) (P : Reading → Type 0)
     → (is_injector ≡ false → All P (unwrap_or (option_map (λ (c : ComputationShape). c.reads) c) []))
     → All P (unwrap_or (option_map (λ (c : ComputationShape). c.reads) (cond is_injector None c)) [])
 for_part true c P all = All-nil P
 for_part false c P all = all refl
 
--- each part reads only what parts before it publish
+-- each part reads only what a part before it publishes
 pub order-of_parts : (shape : Shape) → ReadBefore (injected_streams shape) shape.computations
     → (part : ℕ) → All (λ (r : Reading). Contains (take part (streams_of shape)) r.stream) (reads_of shape part)
 order-of_parts shape reads part =
@@ -301,15 +297,15 @@ order-of_parts shape reads part =
 
 -- ---- the whole
 
--- the shape of the strong computations alone
+-- a topology with the strong computations alone
 abbrev pub strong_shape : Shape → Shape
 strong_shape shape = record shape { computations = strong_ones shape.computations }
 
--- it is what folding leaves
+-- it is the folded topology
 pub folded-strong : (shape : Shape) → folded shape ≡ strong_shape shape
 folded-strong shape = λ i. record shape { computations = left-strong 0 shape.computations i }
 
--- so many readings are left
+-- as many readings are left as there are ways
 ways-left : (ss : List Strong) → sum_by (λ (c : ComputationShape). length c.reads) (map left_of ss) ≡ way_count ss
 ways-left [] = refl
 ways-left (s ∷ ss) =
@@ -317,9 +313,9 @@ ways-left (s ∷ ss) =
     ∙ (λ i. length-map s.ways (λ (w : Way). w.reading) i + ways-left ss i)
     ∙ sym (sum_by-cons (λ (t : Strong). length t.ways) s ss)
 
--- ---- what is left may be folded again, and stays
+-- ---- what is left may be folded again
 
--- none that is left is weak
+-- no computation that is left is weak
 none-weak : (cs : List ComputationShape) → AllByRecursion (λ (c : ComputationShape). c.weak ≡ false) (strong_ones cs)
 none-weak [] = tt
 none-weak (c ∷ cs) = by (none-weak cs) c.weak refl
@@ -329,7 +325,7 @@ none-weak (c ∷ cs) = by (none-weak cs) c.weak refl
     by rest true weak = each-map (λ (d : ComputationShape). d.weak ≡ false) (through c) (strong_ones cs) rest
     by rest false strong = (strong, rest)
 
--- where none is weak, each keeps its readings
+-- where none is weak, the strong ones are all
 pub strong-all : (n : ℕ) (cs : List ComputationShape) → AllByRecursion (λ (c : ComputationShape). c.weak ≡ false) cs
     → strong_from n cs ≡ map strong_as cs
 strong-all n [] each = refl
@@ -337,7 +333,7 @@ strong-all n (c ∷ cs) each =
     ap (λ b. cond b (map (strong_through n c) (strong_from (suc n) cs)) (strong_as c ∷ strong_from n cs)) each.0
     ∙ ap (λ l. strong_as c ∷ l) (strong-all n cs each.1)
 
--- the ways of readings
+-- they have as many ways as they have readings
 ways-as : (cs : List ComputationShape) → way_count (map strong_as cs) ≡ sum_by (λ (c : ComputationShape). length c.reads) cs
 ways-as [] = refl
 ways-as (c ∷ cs) =
@@ -345,13 +341,13 @@ ways-as (c ∷ cs) =
     ∙ (λ i. length-map c.reads way_of i + ways-as cs i)
     ∙ sym (sum_by-cons (λ (d : ComputationShape). length d.reads) c cs)
 
--- there is none of which the stream would have to be read
+-- where none is weak, no stream has to be read
 none-unread : (all cs : List ComputationShape) → AllByRecursion (λ (c : ComputationShape). c.weak ≡ false) cs
     → list_all (λ (c : ComputationShape). not c.weak || is_read all c.stream) cs ≡ true
 none-unread all [] each = refl
 none-unread all (c ∷ cs) each = λ i. (not (each.0 i) || is_read all c.stream) && none-unread all cs each.1 i
 
--- what is left may be folded, where it has few readings
+-- what is left may be folded, where it has at most 64 readings
 pub strong-foldable : (shape : Shape) → sum_by (λ (c : ComputationShape). length c.reads) (strong_ones shape.computations) ≤ 64
     → is_foldable (strong_shape shape) ≡ true
 strong-foldable shape readings =
@@ -361,7 +357,7 @@ strong-foldable shape readings =
     let test : nat_le (way_count (strong_from 0 cs)) 64 ≡ true = grind (arith, nat_tests, few) in
     λ i. none-unread cs cs (none-weak shape.computations) i && test i
 
--- what is left of a topology that may be folded is one
+-- a topology is still one with its strong computations alone
 pub strong-topology : (shape : Shape) → IsTopology shape → IsTopology (strong_shape shape)
 strong-topology shape is_topology =
     let cs = shape.computations in
@@ -374,8 +370,12 @@ strong-topology shape is_topology =
       few_injectors = is_topology.few_injectors;
       few_computations = omega (arith, is_topology.few_computations, count-left cs);
       few_readings = readings;
-      few_intervals = omega (arith, is_topology.few_intervals, count-left cs,
-          few-left (λ (c : ComputationShape). length c.cuts) (λ w c. refl) cs);
+      few_intervals = omega (
+        arith,
+        is_topology.few_intervals,
+        count-left cs,
+        few-left (λ (c : ComputationShape). length c.cuts) (λ w c. refl) cs,
+      );
       names = named (λ (i : InjectorShape). i.name) (λ (c : ComputationShape). c.name) (λ w c. refl) is_topology.names;
       streams = named (λ (i : InjectorShape). i.stream) (λ (c : ComputationShape). c.stream) (λ w c. refl) is_topology.streams;
       names_differ = differ-left (λ (c : ComputationShape). c.name) (λ w c. refl) (map (λ (i : InjectorShape). i.name) shape.injectors) cs
@@ -400,16 +400,16 @@ strong-topology shape is_topology =
         → list_all is_name (map of shape.injectors ++ map f shape.computations) ≡ true
         → list_all is_name (map of shape.injectors ++ map f (strong_ones shape.computations)) ≡ true
     named of f own e =
-        let both = both_true (list_all is_name (map of shape.injectors)) (list_all is_name (map f shape.computations))
+        let both = and_parts (list_all is_name (map of shape.injectors)) (list_all is_name (map f shape.computations))
         (sym (list_all-append is_name (map of shape.injectors) (map f shape.computations)) ∙ e) in
         list_all-append is_name (map of shape.injectors) (map f (strong_ones shape.computations))
         ∙ (λ i. both.0 i && all-left f own is_name shape.computations both.1 i)
 
--- so is what folding leaves
+-- so what folding leaves is a topology
 pub folded-topology : (shape : Shape) → IsTopology shape → IsTopology (folded shape)
 folded-topology shape is_topology = subst IsTopology (sym (folded-strong shape)) (strong-topology shape is_topology)
 
--- so many are left
+-- each computation is left or is weak
 pub strong-count : (n : ℕ) (cs : List ComputationShape) → length (strong_from n cs) + weak_count cs ≡ length cs
 strong-count n [] = refl
 strong-count n (c ∷ cs) = by (strong-count (suc n) cs) (strong-count n cs) c.weak refl
@@ -427,79 +427,7 @@ strong-count n (c ∷ cs) = by (strong-count (suc n) cs) (strong-count n cs) c.w
         omega (arith, weak, length-map (strong_from (suc n) cs) (strong_through n c), counted, worth e)
     by weak strong false e = omega (arith, strong, counted, worth e)
 
--- ---- ways never become fewer
-
--- a way goes on to something
-ways-more : (n : ℕ) (w : ComputationShape) → 1 ≤ length w.reads → (ways : List Way) → length ways ≤ length (flat_map (way_through n w) ways)
-ways-more n w some [] = omega arith
-ways-more n w some (v ∷ vs) =
-    omega (arith, length-append (way_through n w v) (flat_map (way_through n w) vs), one (is v.reading.stream w.stream), ways-more n w some vs)
-  where
-    one : (b : Bool) → 1 ≤ length (cond b (map (way_past n v) w.reads) (v ∷ []))
-    one true = omega (arith, some, length-map w.reads (way_past n v))
-    one false = omega arith
-
--- so do those of all
-pub count-more : (n : ℕ) (w : ComputationShape) → 1 ≤ length w.reads → (ss : List Strong) → way_count ss ≤ way_count (map (strong_through n w) ss)
-count-more n w some [] = omega arith
-count-more n w some (s ∷ ss) =
-    omega (
-      arith,
-      sum_by-cons (λ (t : Strong). length t.ways) s ss,
-      sum_by-cons (λ (t : Strong). length t.ways) (strong_through n w s) (map (strong_through n w) ss),
-      ways-more n w some s.ways,
-      count-more n w some ss,
-    )
-
--- a step of the search behind a weak computation
-pub few-weak : (n : ℕ) (w : ComputationShape) → 1 ≤ length w.reads → (ss : List Strong)
-    → option_and_then (λ (t : List Strong). few_of (map (strong_through n w) t)) (few_of ss) ≡ few_of (map (strong_through n w) ss)
-few-weak n w some ss = by (nat_le (way_count ss) 64) refl
-  where
-    by : (b : Bool) → nat_le (way_count ss) 64 ≡ b
-        → option_and_then (λ (t : List Strong). few_of (map (strong_through n w) t)) (cond b (Some ss) None) ≡ few_of (map (strong_through n w) ss)
-    by true e = refl
-    by false e =
-        let more = count-more n w some ss in
-        let many : nat_le (way_count (map (strong_through n w) ss)) 64 ≡ false = grind (arith, nat_tests, more, e) in
-        ap (λ b. cond b (Some (map (strong_through n w) ss)) None) (sym many)
-
--- and behind a strong one
-pub few-strong : (c : ComputationShape) (ss : List Strong)
-    → option_and_then (λ (t : List Strong). few_of (strong_as c ∷ t)) (few_of ss) ≡ few_of (strong_as c ∷ ss)
-few-strong c ss = by (nat_le (way_count ss) 64) refl
-  where
-    by : (b : Bool) → nat_le (way_count ss) 64 ≡ b
-        → option_and_then (λ (t : List Strong). few_of (strong_as c ∷ t)) (cond b (Some ss) None) ≡ few_of (strong_as c ∷ ss)
-    by true e = refl
-    by false e =
-        let more : way_count ss ≤ way_count (strong_as c ∷ ss) = omega (arith, sum_by-cons (λ (t : Strong). length t.ways) (strong_as c) ss) in
-        let many : nat_le (way_count (strong_as c ∷ ss)) 64 ≡ false = grind (arith, nat_tests, more, e) in
-        ap (λ b. cond b (Some (strong_as c ∷ ss)) None) (sym many)
-
--- what is found of some computations, of which the first is weak
-pub from-weak : (n : ℕ) (cs : List ComputationShape) (c : ComputationShape) (rest : List ComputationShape) → cs ≡ c ∷ rest → c.weak ≡ true
-    → ReadSome cs → (behind : Option (List Strong)) → behind ≡ few_of (strong_from (n + 1) rest)
-    → option_and_then (λ (t : List Strong). few_of (map (strong_through n c) t)) behind ≡ few_of (strong_from n cs)
-from-weak n cs c rest is weak some behind found =
-    let each = recursion_from_All (λ (d : ComputationShape). 1 ≤ length d.reads) (c ∷ rest) (subst ReadSome is some) in
-    ap (option_and_then (λ (t : List Strong). few_of (map (strong_through n c) t))) found
-    ∙ few-weak n c each.0 (strong_from (n + 1) rest)
-    ∙ (λ i. few_of (cond (sym weak i) (map (strong_through n c) (strong_from (next i) rest)) (strong_as c ∷ strong_from n rest)))
-    ∙ ap (λ l. few_of (strong_from n l)) (sym is)
-  where
-    next : n + 1 ≡ suc n
-    next = omega arith
-
--- and of which it is strong
-pub from-strong : (n : ℕ) (cs : List ComputationShape) (c : ComputationShape) (rest : List ComputationShape) → cs ≡ c ∷ rest → c.weak ≡ false
-    → (behind : Option (List Strong)) → behind ≡ few_of (strong_from n rest)
-    → option_and_then (λ (t : List Strong). few_of (strong_as c ∷ t)) behind ≡ few_of (strong_from n cs)
-from-strong n cs c rest is strong behind found =
-    ap (option_and_then (λ (t : List Strong). few_of (strong_as c ∷ t))) found
-    ∙ few-strong c (strong_from n rest)
-    ∙ (λ i. few_of (cond (sym strong i) (map (strong_through n c) (strong_from (suc n) rest)) (strong_as c ∷ strong_from n rest)))
-    ∙ ap (λ l. few_of (strong_from n l)) (sym is)
+-- ---- a topology without weak computations
 
 -- a topology without weak computations stays as it is
 pub folded-none : (shape : Shape) → AllByRecursion (λ (c : ComputationShape). c.weak ≡ false) shape.computations → folded shape ≡ shape

@@ -24,7 +24,7 @@ reading_count computations = sum_by (λ (c : ComputationShape). length c.reads) 
 abbrev pub cut_count : List ComputationShape → ℕ
 cut_count computations = sum_by (λ (c : ComputationShape). length c.cuts) computations
 
--- there is an injector, each computation reads something, and only passes are weak, as the form of a file asks
+-- there is an injector, each computation reads something, and a weak one is a pass, as the form of a file asks
 pub record IsFull (shape : Shape) : Type 0 where
   pub some_injector : 1 ≤ length shape.injectors
   pub reading : All (λ (c : ComputationShape). 1 ≤ length c.reads) shape.computations

@@ -70,7 +70,7 @@ has_cuts shape = list_all (λ (c : ComputationShape). are_cuts c.cuts) shape.com
 abbrev pub where_holds : Bool → TopologyRefusal → Result Shape TopologyRefusal → Result Shape TopologyRefusal
 where_holds holds refusal next = if holds then next else Err refusal
 
--- the shape, where it may be folded
+-- the shape, where its weak computations may be left out
 abbrev pub woven : Shape → Result Shape TopologyRefusal
 woven shape = where_holds (is_foldable shape) BadWeak (Ok shape)
 

@@ -1,6 +1,7 @@
--- What a topology is without its weak computations, and which of these its records pass. Own.
--- A reading of a weak computation's stream becomes, in its place, one reading with the same extractor of each
--- stream that the weak one reads. Weak computations have numbers, from 0, in the order of the file.
+-- What a topology is without its weak computations, and which of these a record passes on its way. Own.
+-- A reading of a weak computation's stream stands for readings of what that computation reads: they come in
+-- its place, in their order, and keep its extractor. Weak computations have numbers of their own, from 0, in
+-- the order of the file.
 use Rattle.std.specs.Prelude.{ℕ, suc, ◌%◌, ◌&&◌, ◌||◌, not, nat_le, nat_eq, Bool, if◌then◌else◌, List, [], ◌∷◌, length, map, filter, sum_by, slice_get, unwrap_or, count_by}
 use Rattle.std.specs.List.{list_any, list_all, flat_map, range_with_len}
 use Rattle.std.specs.Cmp.Lexicographic.{pointwise}
@@ -19,7 +20,7 @@ pub record Strong : Type 0 where
   pub computation : ComputationShape
   pub ways : List Way
 
--- a reading that passes no weak computation
+-- the way of a reading that passes nothing
 abbrev pub way_of : Reading → Way
 way_of reading = record { reading = reading; passed = [] }
 
@@ -36,11 +37,11 @@ way_through number weak way = if pointwise nat_eq way.reading.stream weak.stream
     then map (way_past number way) weak.reads
     else way ∷ []
 
--- a strong computation, with its ways to the stream of a weak one through that
+-- a strong computation, where each of its ways to a weak one's stream goes through that
 abbrev pub strong_through : ℕ → ComputationShape → Strong → Strong
 strong_through number weak strong = record strong { ways = flat_map (way_through number weak) strong.ways }
 
--- a strong computation, with its readings as its ways
+-- a strong computation, of which each reading is a way
 abbrev pub strong_as : ComputationShape → Strong
 strong_as c = record { computation = c; ways = map way_of c.reads }
 
@@ -51,9 +52,9 @@ strong_from n (c ∷ cs) = if c.weak
     then map (strong_through n c) (strong_from (suc n) cs)
     else strong_as c ∷ strong_from n cs
 
--- ---- the topology that is left
+-- ---- what is left
 
--- a strong computation with the readings of its ways
+-- a strong computation as it stands when the weak ones are left out
 abbrev pub left_of : Strong → ComputationShape
 left_of strong = record strong.computation { reads = map (λ (w : Way). w.reading) strong.ways }
 
@@ -61,41 +62,43 @@ left_of strong = record strong.computation { reads = map (λ (w : Way). w.readin
 abbrev pub folded : Shape → Shape
 folded shape = record shape { computations = map left_of (strong_from 0 shape.computations) }
 
--- how many ways there are
+-- ---- which topologies may be folded
+
+-- how many ways these computations have
 abbrev pub way_count : List Strong → ℕ
 way_count strong = sum_by (λ (s : Strong). length s.ways) strong
 
--- whether one of these readings is of a stream
+-- whether a stream is among those that are read here
 abbrev pub are_reading : List Reading → List ℕ → Bool
 are_reading reads stream = list_any (λ (r : Reading). pointwise nat_eq r.stream stream) reads
 
--- whether one of these computations reads a stream
+-- whether a computation of these reads a stream
 abbrev pub is_read : List ComputationShape → List ℕ → Bool
 is_read computations stream = list_any (λ (c : ComputationShape). are_reading c.reads stream) computations
 
--- the stream of each weak computation is read
+-- whether what each weak computation publishes is read
 abbrev pub are_weak_read : List ComputationShape → Bool
 are_weak_read computations =
     list_all (λ (c : ComputationShape). not c.weak || is_read computations c.stream) computations
 
--- so it is, and without the weak computations there are at most 64 readings
+-- whether what each weak computation publishes is read, and at most 64 readings are left without them
 abbrev pub is_foldable : Shape → Bool
 is_foldable shape = are_weak_read shape.computations && nat_le (way_count (strong_from 0 shape.computations)) 64
 
 -- ---- routes
 
--- the weak computations that records pass on their ways from each part to its consumers, and how many weak
--- ones were left out
+-- the weak computations between each part that is left and each of its consumers, and how many weak ones
+-- there are
 pub record RoutesView : Type 0 where
   pub by_part : List (List (List ℕ))
   pub weaks : ℕ
 
--- the routes of the ways that read a stream, in their order
+-- what the ways to a stream pass
 abbrev pub passed_to : List ℕ → List Way → List (List ℕ)
 passed_to stream ways = map (λ (w : Way). w.passed)
     (filter (λ (w : Way). pointwise nat_eq w.reading.stream stream) ways)
 
--- the routes to the consumers of a stream, in the order of the file
+-- the routes from a stream to its consumers, in the order of the consumers
 abbrev pub routes_to : List Strong → List ℕ → List (List ℕ)
 routes_to strong stream = flat_map (λ (s : Strong). passed_to stream s.ways) strong
 
@@ -103,7 +106,7 @@ routes_to strong stream = flat_map (λ (s : Strong). passed_to stream s.ways) st
 abbrev pub weak_count : List ComputationShape → ℕ
 weak_count computations = count_by (λ (c : ComputationShape). c.weak) computations
 
--- the routes of the topology that is left
+-- the routes of a topology, from the parts that folding leaves
 abbrev pub routes_in : Shape → RoutesView
 routes_in shape = record {
   by_part = map (λ part. routes_to (strong_from 0 shape.computations) (stream_of (folded shape) part))
@@ -111,12 +114,12 @@ routes_in shape = record {
   weaks = weak_count shape.computations;
 }
 
--- the one of these routes that the record with an index goes: its consumer is that number modulo their count
+-- the route at an index, where the count begins anew behind the last one
 abbrev pub route_among : List (List ℕ) → ℕ → List ℕ
 route_among [] index = []
 route_among (route ∷ routes) index =
     unwrap_or (slice_get (route ∷ routes) (index % length (route ∷ routes))) []
 
--- the route of the record that an entry of a part made under an index
+-- the route of a record that a part sent, by the index in the record's id
 abbrev pub route_in : RoutesView → ℕ → ℕ → List ℕ
 route_in routes part index = route_among (unwrap_or (slice_get routes.by_part part) []) index

@@ -126,39 +126,39 @@ numbers_of (Count size) = 1
 numbers_of (Spike last times) = 2
 numbers_of Pass = 0
 
--- 1 where a member is stated, and else 0
+-- how many members have this name, 1 or none
 abbrev pub stated : List ℕ → Data → ℕ
 stated name value = option_map_or (λ member. 1) (get name value) 0
 
--- how many members tell whether a computation of this kind is weak: a pass alone may state it
+-- how many members say whether a computation of this kind is weak, which a pass alone may have
 abbrev pub weak_stated : Kind → Data → ℕ
 weak_stated Pass value = stated (codes "weak") value
 weak_stated _ value = 0
 
--- whether a pass is weak, which it is not where it does not state it
+-- whether a pass is weak: what its member says, and where it has none it is strong
 abbrev pub stated_weak : Data → Option Bool
 stated_weak value = option_map_or as_bool (get (codes "weak") value) (Some false)
 
--- whether a computation of this kind is weak; none but a pass is
+-- whether a computation of this kind is weak, which a pass alone can be
 abbrev pub weak_in : Kind → Data → Option Bool
 weak_in Pass value = stated_weak value
 weak_in _ value = Some false
 
--- how many members a computation of this kind has: four, those of its kind, and the cuts and `weak` where
--- they are stated
+-- how many members a computation of this kind has: four, those of its kind, and `cuts` and `weak` where they
+-- are stated
 abbrev pub members_of : Kind → Data → ℕ
 members_of kind value = 4 + numbers_of kind + stated (codes "cuts") value + weak_stated kind value
 
--- a computation of this kind, which has a name, readings, a stream, maybe cuts, a pass maybe whether it is
--- weak, and no other member
+-- a computation of this kind, which has a name, readings, a stream, maybe cuts and as a pass maybe `weak`,
+-- and no other member
 abbrev pub computation_of_kind : Data → Kind → Option ComputationShape
 computation_of_kind value kind =
     with_members (members_of kind value) value
-    (and_then (text_in (codes "name") value) (λ name.
+    (and_then (weak_in kind value) (λ weak.
+    and_then (text_in (codes "name") value) (λ name.
     and_then (reads_in value) (λ reads.
     and_then (text_in (codes "stream") value) (λ stream.
     and_then (cuts_in value) (λ cuts.
-    and_then (weak_in kind value) (λ weak.
     Some (record { name = name; kind = kind; reads = reads; stream = stream; cuts = cuts; weak = weak })))))))
 
 -- a computation

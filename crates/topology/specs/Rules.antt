@@ -45,14 +45,14 @@ pub record AreCutKeys (cuts : List (List ℕ)) : Type 0 where
   pub short : All (λ (cut : List ℕ). length cut ≤ 256) cuts
   pub ascending : IsStrictlySortedBy key_cmp cuts
 
--- a weak computation is a pass
+-- a computation is a pass where it is weak
 abbrev pub IsPassWhereWeak : ComputationShape → Type 0
 IsPassWhereWeak c = c.weak ≡ true → c.kind ≡ Pass
 
 -- there are injectors, and at most 16; at most 32 computations, 64 readings and 61 intervals; names are
 -- names and differ, and so are streams; a computation reads something, and only what a part before it
--- publishes; the numbers of kinds are in range, cuts are cuts, only passes are weak; what
--- they publish is read, and without them there are at most 64 readings
+-- publishes; the numbers of kinds are in range, and cuts are cuts; a weak computation is a pass, what it
+-- publishes is read, and without the weak ones at most 64 readings are left
 pub record IsTopology (shape : Shape) : Type 0 where
   pub some_injector : 1 ≤ length shape.injectors
   pub few_injectors : length shape.injectors ≤ 16

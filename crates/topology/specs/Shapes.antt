@@ -21,7 +21,7 @@ pub record InjectorShape : Type 0 where
   pub stream : List ℕ
 
 -- a computation, with what it reads, the stream that it publishes, where its intervals of keys begin, and
--- whether it sends on before anything is committed for it
+-- whether its productions are weak
 pub record ComputationShape : Type 0 where
   pub name : List ℕ
   pub kind : Kind

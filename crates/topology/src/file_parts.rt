@@ -23,7 +23,14 @@ impl Model for FileComputation {
 
     ghost Value = { ComputationShape };
 
-    ghost view = { λ c. record { name = c.name; kind = c.kind; reads = c.reads; stream = c.stream; cuts = c.cuts; weak = c.weak } };
+    ghost view = { λ c. record {
+      name = c.name;
+      kind = c.kind;
+      reads = c.reads;
+      stream = c.stream;
+      cuts = c.cuts;
+      weak = c.weak;
+    } };
 }
 
 /// All parts of a file, injectors first.

@@ -240,7 +240,7 @@ fn broken_rule(file: &FileParts, names: &[Name], streams: &[Name]) -> Result<(),
     Ok(())
 }
 
-/// Tries the rules in their order, but for that of weak computations.
+/// Tries the rules in their order, up to that of weak computations, which is tried as these are left out.
 pub fn check(alloc: Global, file: &FileParts) -> Result<(), TopologyRefusal>
     ensures kept { OnOk result (checked file.now ≡ woven file.now) }
     ensures broken { IfErr result (IsRefusalOf TopologyRefusal.NoMemory (checked file.now)) }

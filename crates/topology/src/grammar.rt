@@ -241,7 +241,7 @@ fn members_of(kind: Kind, value: &Value) -> usize
     4 + numbers + stated(value, "cuts") + weak_stated(kind, value)
 }
 
-// 1 where a member is stated, and else 0.
+// How many members have this name, 1 or none.
 fn stated(value: &Value, name: &str) -> usize
     ensures { result ≡ stated name.now (view value.now) }
 {
@@ -251,7 +251,7 @@ fn stated(value: &Value, name: &str) -> usize
     }
 }
 
-// How many members tell whether a computation of this kind is weak, which a pass alone may state.
+// How many members say whether a computation of this kind is weak, which a pass alone may have.
 fn weak_stated(kind: Kind, value: &Value) -> usize
     ensures { result ≡ weak_stated kind (view value.now) }
 {
@@ -261,7 +261,7 @@ fn weak_stated(kind: Kind, value: &Value) -> usize
     }
 }
 
-// Whether a computation of this kind is weak: where a pass states it, and no other is.
+// Whether a computation of this kind is weak, which a pass alone can be.
 fn weak_in(kind: Kind, value: &Value) -> Option<bool>
     ensures { result ≡ weak_in kind (view value.now) }
 {
@@ -271,7 +271,7 @@ fn weak_in(kind: Kind, value: &Value) -> Option<bool>
     }
 }
 
-// Whether a pass is weak, which it is not where it does not state it.
+// Whether a pass is weak: what its member says, and where it has none it is strong.
 fn stated_weak(value: &Value) -> Option<bool>
     ensures { result ≡ stated_weak (view value.now) }
 {
@@ -302,13 +302,13 @@ fn computation_of_kind(
     if !has_members(value, members_of(kind, value)) {
         return Err(ShapeRefusal::BadShape);
     }
+    let Some(weak) = weak_in(kind, value) else {
+        return Err(ShapeRefusal::BadShape);
+    };
     let name = name_in(alloc, value, "name")?;
     let reads = reads_in(alloc, value)?;
     let stream = name_in(alloc, value, "stream")?;
     let cuts = cuts_in(alloc, value)?;
-    let Some(weak) = weak_in(kind, value) else {
-        return Err(ShapeRefusal::BadShape);
-    };
     Ok(FileComputation {
         name,
         kind,

@@ -56,7 +56,7 @@ impl Duplicate for InjectorPart {
     }
 }
 
-/// A computation, with what it reads, the stream that it publishes, and its cuts.
+/// A computation, with what it reads, the stream that it publishes, its cuts, and whether it is weak.
 #[derive(Drop)]
 pub struct ComputationPart {
     pub name: Name,
@@ -72,7 +72,14 @@ impl Model for ComputationPart {
 
     ghost Value = { ComputationShape };
 
-    ghost view = { λ c. record { name = c.name; kind = c.kind; reads = c.reads; stream = c.stream; cuts = c.cuts; weak = c.weak } };
+    ghost view = { λ c. record {
+      name = c.name;
+      kind = c.kind;
+      reads = c.reads;
+      stream = c.stream;
+      cuts = c.cuts;
+      weak = c.weak;
+    } };
 }
 
 /// All parts, injectors first, in the order of the file.
@@ -153,7 +160,7 @@ impl ComputationPart {
         self.reads.as_slice()
     }
 
-    /// Whether it is weak.
+    /// Whether its productions are weak.
     pub fn weak(&self) -> bool
         ensures { result ≡ self.now.weak }
     {

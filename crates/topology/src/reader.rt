@@ -38,10 +38,11 @@ fn topology_in(alloc: Global, file: &FileParts) -> Result<Topology, TopologyRefu
 {
     check(alloc, file)?;
     let parts = parts_in(alloc, file)?;
-    if !is_foldable(alloc, &parts)? {
-        return Err(TopologyRefusal::BadWeak);
+    if is_foldable(alloc, &parts)? {
+        return Ok(Topology::of(alloc, parts)?);
     }
-    Ok(Topology::of(alloc, parts)?)
+    drop(parts);
+    Err(TopologyRefusal::BadWeak)
 }
 
 /// Reads a topology file. Each rule is tried on the whole file before the next.

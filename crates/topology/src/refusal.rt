@@ -22,8 +22,8 @@ pub enum TopologyRefusal {
     BadNumber,
     /// A cut has not 1 to 256 bytes, or the cuts of a computation do not ascend.
     BadCuts,
-    /// Nothing reads the stream of a weak computation, or without the weak ones there are more than 64
-    /// readings.
+    /// No computation reads the stream of a weak one, or more than 64 readings are left without the weak
+    /// ones.
     BadWeak,
     /// Memory ran out.
     NoMemory,

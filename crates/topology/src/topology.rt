@@ -108,7 +108,8 @@ impl Topology {
         self.feeds.as_slice()[part as usize].as_slice()
     }
 
-    /// Whether a part is weak: a pass that sends on before anything is committed for it.
+    /// Whether a part's productions are weak: such a pass sends a record on before anything is committed for
+    /// it. An injector's are not.
     pub fn weak(&self, part: u32) -> bool
         requires { part < parts_of self.now }
         ensures weak { result ≡ is_weak self.now part }
@@ -116,7 +117,10 @@ impl Topology {
         self.parts.weak(part)
     }
 
-    /// Leaves the weak computations out, and tells which of them a record passes on its way.
+    /// The topology that a run works on, and the way of its records through what is left out of it.
+    ///
+    /// No weak computation is left: what reads its stream reads, by its own extractor, what that computation
+    /// reads. The parts behind one are counted anew. It refuses for want of memory alone.
     pub fn fold(&self, alloc: Global) -> Result<Folded, NoMemory>
         ensures topology { IfOk result (λ made. made.topology ≡ folded self.now) }
         ensures routes { IfOk result (λ made. made.routes ≡ routes_in self.now) }

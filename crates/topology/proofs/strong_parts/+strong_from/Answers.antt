@@ -1,6 +1,6 @@
-use Rattle.std.proofs.Common.{rules, ◌≡◌, ◌∙◌, IfOk, subst}
-use Rattle.topology.proofs.WhatIsLeft.{from-weak, from-strong}
-use Rattle.topology.proofs.folding.+strong_from.Goals as goal
+use Rattle.std.proofs.Common.{rules, ◌≡◌, IfOk, subst}
+use Rattle.topology.proofs.FewWays.{from-weak}
+use Rattle.topology.proofs.strong_parts.+strong_from.Goals as goal
 
 pub returns-in_ok-behind : goal.returns-in_ok-behind
 returns-in_ok-behind t c =

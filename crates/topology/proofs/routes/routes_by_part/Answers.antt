@@ -2,7 +2,7 @@ use Rattle.std.proofs.Common.{◌∙◌, ap}
 use Rattle.topology.specs.Shapes.{stream_of}
 use Rattle.topology.specs.Folding.{routes_to}
 use Rattle.topology.proofs.ByPart.{by_part_push}
-use Rattle.topology.proofs.folding.routes_by_part.Goals as goal
+use Rattle.topology.proofs.routes.routes_by_part.Goals as goal
 
 pub loop-part-preserved : goal.loop-part-preserved
 loop-part-preserved c =
