@@ -1,7 +1,8 @@
-//! The ids that a weak computation sent on, and of which no acknowledgement has come back.
+//! The ids of the records that a weak computation sent on and that are not acknowledged to it yet.
 //!
-//! Stands on `mw_types`. Public contract: an id is held once, from when its record was sent on until word
-//! of it came back or all was forgotten. Definition: `specs/Relays.antt`.
+//! Stands on `mw_types`. Public contract: `forward` holds an id, once however often it comes; `back` says
+//! whether an id was held, and holds it no more; neither changes what is held of another id. Definition:
+//! `specs/Relays.antt`.
 #![tactic(auto)]
 
 mod relay;

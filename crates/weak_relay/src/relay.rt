@@ -1,4 +1,4 @@
-//! What a weak computation has sent on.
+//! The ids that one weak computation holds.
 ghost use Rattle.std.specs.Prelude.{◌≡◌, if◌then◌else◌, true, false, [], OnErr, OnOk};
 ghost use Rattle.mw_types.specs.declared.identity.RecordId.{RecordId};
 ghost use Rattle.weak_relay.specs.Relays.{holds, is_same, with_id, without_id};
@@ -8,7 +8,10 @@ use std::alloc::Global;
 use std::collections::BTreeSet;
 use std::marker::Model;
 
-/// The ids that a weak computation sent on, and of which no acknowledgement has come back.
+/// The memory of a weak computation: the ids of records that it sent on and that are not acknowledged to it.
+///
+/// An acknowledgement goes on to the record's producer only where its id is here. What is here is lost with
+/// the process, and a record that is sent anew puts its id here anew.
 #[derive(Drop)]
 pub struct Relay {
     held: BTreeSet<RecordId>,
@@ -24,7 +27,7 @@ impl Model for Relay {
 }
 
 impl Relay {
-    /// A relay that holds nothing. It takes no memory.
+    /// A relay that holds no id. It takes no memory before the first.
     pub fn new(alloc: Global) -> Relay
         ensures empty { result ≡ [] }
     {
@@ -33,7 +36,9 @@ impl Relay {
         }
     }
 
-    /// Holds the id of a record that it sends on, once.
+    /// Holds the id of a record before the record is sent on.
+    ///
+    /// An id that is held already stays so. It refuses for want of memory alone.
     pub fn forward(&mut self, id: RecordId) -> Result<(), NoMemory>
         ensures held { OnOk result (self.new ≡ with_id id self.old) }
         ensures among { OnOk result ((other : RecordId) →
@@ -45,7 +50,8 @@ impl Relay {
         Ok(())
     }
 
-    /// Whether it held the id of a record of which word came back. It holds that id no more.
+    /// Takes the acknowledgement of a record, and tells whether to pass it on: whether the id was held. It is
+    /// then held no more.
     pub fn back(&mut self, id: RecordId) -> bool
         ensures held { result ≡ holds self.old id }
         ensures given { self.new ≡ without_id id self.old }
@@ -56,14 +62,14 @@ impl Relay {
         self.held.remove(&id)
     }
 
-    /// Whether it holds an id.
+    /// Whether an id is held: whether its acknowledgement would be passed on.
     pub fn holds(&self, id: RecordId) -> bool
         ensures held { result ≡ holds self.now id }
     {
         self.held.contains(&id)
     }
 
-    /// Holds nothing any more.
+    /// Lets all ids go, as when the process of the weak computation ends.
     pub fn forget(&mut self)
         ensures empty { self.new ≡ [] }
     {
