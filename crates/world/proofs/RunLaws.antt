@@ -69,6 +69,8 @@ faulted-history (steps.Resend worker) old new kept = ap (λ (w : World). w.histo
 faulted-history (steps.Purge worker interval) old new kept = ap (λ (w : World). w.history) kept
 faulted-history (steps.Repeat message) old new kept = ap (λ (w : World). w.history) kept
 faulted-history (steps.Lose message) old new kept = ap (λ (w : World). w.history) kept
+faulted-history (steps.Relay relay message) old new kept = ap (λ (w : World). w.history) kept
+faulted-history (steps.Forget relay) old new kept = ap (λ (w : World). w.history) kept
 faulted-history (steps.Crash worker) old new kept = ap (λ (w : World). w.history) kept
 
 -- what was written so far begins what the script writes

@@ -40,6 +40,7 @@ pub use scripts::examples::{
     crash_before_write, crash_between_write_and_send, late_copy_is_duplicate, old_owner_is_stale,
     one_worker_writes_the_drained_example, overtaken_leases_are_lost,
     records_wait_while_one_is_prepared, steps_without_work_change_nothing,
+    word_is_lost_where_a_relay_forgot, word_passes_back_over_a_relay,
 };
 pub use scripts::keeping::{
     leases_are_claims_of_their_workers, messages_keep_their_numbers, scripts_keep_what_steps_keep,

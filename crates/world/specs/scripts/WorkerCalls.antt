@@ -45,10 +45,11 @@ pub record HasCalled (old new : BookView) (was node : NodeView) : Type 0 where
   pub sound : IsSound (own_view new)
 
 -- a world goes on: its history has grown by one entry at most, its book keeps all else but marks, rows and
--- counts, and faults never fall
+-- counts, faults never fall, and records have the same routes
 pub record HasGoneOn (old new : WorldState) : Type 0 where
   pub own : Option Entry
   pub stepped : HasStepped old.book new.book own
+  pub routes : new.routes ≡ old.routes
 
 -- nothing was done: the history, the marks and the worker are as they were
 pub record HasRested (old new : BookView) (was node : NodeView) : Type 0 where
@@ -129,12 +130,14 @@ IsAlone number (steps.Purge worker interval) = worker ≡ number
 IsAlone number (steps.Crash worker) = worker ≡ number
 IsAlone number _ = ⊥
 
--- a step is of messages: one is sent, taken, copied or lost
+-- a step is of messages: one is sent, taken, copied, lost or passes a relay, or a relay forgets them
 abbrev pub IsOfMessages : Step → Type 0
 IsOfMessages (steps.Send worker) = ⊤
 IsOfMessages (steps.Take worker message) = ⊤
 IsOfMessages (steps.Repeat message) = ⊤
 IsOfMessages (steps.Lose message) = ⊤
+IsOfMessages (steps.Relay relay message) = ⊤
+IsOfMessages (steps.Forget relay) = ⊤
 IsOfMessages _ = ⊥
 
 -- what a worker has prepared, if anything, is a record that was handled

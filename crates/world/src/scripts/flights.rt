@@ -42,7 +42,7 @@ pub(crate) fn take_out(flight: &mut Flight, message: u32) -> Message<NoNote>
 }
 
 // Whether there are numbers for so many messages more.
-fn has_numbers(flight: &Flight, count: usize) -> bool
+pub(crate) fn has_numbers(flight: &Flight, count: usize) -> bool
     requires few { length flight.now.items ≤ 2 ^ 32 }
     ensures { result ≡ nat_le (length flight.now.items + count) (2 ^ 32) }
 {
@@ -50,7 +50,7 @@ fn has_numbers(flight: &Flight, count: usize) -> bool
 }
 
 // Makes room for so many messages more.
-fn make_room(flight: &mut Flight, count: usize) -> Result<(), NoMemory>
+pub(crate) fn make_room(flight: &mut Flight, count: usize) -> Result<(), NoMemory>
     ensures same { flight.new.items ≡ flight.old.items }
     ensures room { OnOk result
         (length flight.new.items + count ≤ vec_capacity flight.new) }

@@ -1,6 +1,7 @@
 //! What each step of a script keeps, and so each script.
 ghost use Rattle.std.specs.Prelude.{List, None, Option, ℕ, ◌<◌, ◌≡◌, length};
 ghost use Rattle.mw_types.specs.declared.entry.Entry.{Entry};
+ghost use Rattle.topology.specs.Folding.{RoutesView};
 ghost use Rattle.run_history.specs.Cases.{CaseShape};
 ghost use Rattle.run_history.specs.Fences.{Begins};
 ghost use Rattle.outbox.specs.declared.outgoing.Outgoing.{Outgoing};
@@ -53,9 +54,10 @@ pub fn scripts_keep_what_steps_keep()
         KeepsWorld world (world_after case world script) }
 
     // Before a script no worker has a lease, so after it each lease is a claim of its worker.
-    ensures claimed { (case : CaseShape) (history : List Entry) (marks : List ℕ)
-        (script : List Step) → AreClaimed (world_after case (world_on history marks) script) }
-    ensures sixteen { (case : CaseShape) (history : List Entry) (marks : List ℕ)
-        (script : List Step) →
-        length (world_after case (world_on history marks) script).workers ≡ 16 }
+    ensures claimed { (case : CaseShape) (routes : RoutesView) (history : List Entry)
+        (marks : List ℕ) (script : List Step) →
+        AreClaimed (world_after case (world_on routes history marks) script) }
+    ensures sixteen { (case : CaseShape) (routes : RoutesView) (history : List Entry)
+        (marks : List ℕ) (script : List Step) →
+        length (world_after case (world_on routes history marks) script).workers ≡ 16 }
 {}
