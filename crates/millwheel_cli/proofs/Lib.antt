@@ -4,6 +4,7 @@ pub mod Auditing
 pub mod Sources
 pub mod Loading
 pub mod LoadTopology
+pub mod Foldings
 pub mod LoadLines
 pub mod LoadTaken
 pub mod Gathering

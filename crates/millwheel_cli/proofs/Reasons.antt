@@ -7,6 +7,7 @@ use Rattle.command_line.specs.declared.command.Call.TheVariants.{Solo, Replay, R
 use Rattle.command_line.specs.declared.command.Command.{Command}
 use Rattle.mw_ports.specs.Shelves.{Files}
 use Rattle.topology.specs.Shapes.{Shape}
+use Rattle.topology.specs.Folding.{RoutesView, folded, routes_in, weak_count}
 use Rattle.task_runs.specs.declared.task.Before.{Before}
 use Rattle.task_runs.specs.declared.task.Task.{Task}
 use Rattle.task_runs.specs.declared.status.Status.{Status}
@@ -14,11 +15,11 @@ use Rattle.task_runs.specs.declared.status.Status.TheVariants as status
 use Rattle.millwheel_cli.specs.declared.refusal.Refusal.{Refusal}
 use Rattle.millwheel_cli.specs.declared.refusal.Refusal.TheVariants.{NoFile, TopologyRefused, EventsRefused, PlanRefused, NoMemory, ReadFault, TooLong, FileCount, CollectRefused, AuditRefused}
 use Rattle.millwheel_cli.specs.Limits.{plan_limit, events_limit, lines_limit, trace_limit}
-use Rattle.millwheel_cli.specs.Files.{HoldsTopology, source_taken}
+use Rattle.millwheel_cli.specs.Files.{source_taken}
 use Rattle.millwheel_cli.specs.Tasks.{rounds_taken, steps_taken, HoldsBefore, IsInputsTask}
 use Rattle.millwheel_cli.specs.Reasons.{ShelfSeen, IsAuditRefused, IsTraceRefusedBehind, IsUnread, IsFileRefused, IsPlanRefused, IsSourceRefused, IsRefusedFirst, IsRefused, IsCallRefused, IsCommandRefused, HasReason}
 use Rattle.millwheel_cli.specs.Audits.{CountsTrace, HoldsCase, HoldsRun, HoldsWrong, trace_taken}
-use Rattle.millwheel_cli.specs.Inside.{IsTraceRefused, status_of, UnlessWant}
+use Rattle.millwheel_cli.specs.Inside.{HoldsLeft, IsTraceRefused, status_of, UnlessWant}
 use Rattle.millwheel_cli.proofs.Refusals.{unless_map}
 
 -- what was seen of a shelf with these files, while its counts rose so
@@ -69,32 +70,40 @@ source_over files f0 f1 f2 l0 l1 l2 file room (name ∷ names) s f l is = elim i
 ]
 
 -- and of a plan
-plan_over : (files : Option Files) (f0 f1 f2 l0 l1 l2 : ℕ) (call : Call) (shape : Shape) (s : Status) → f0 ≤ f1 → l0 ≤ l1
-    → IsPlanRefused (seen_of files f1 f2 l1 l2) call shape s → IsPlanRefused (seen_of files f0 f2 l0 l2) call shape s
-plan_over files f0 f1 f2 l0 l1 l2 (Solo inputs) shape s f l is = absurd is
-plan_over files f0 f1 f2 l0 l1 l2 (Replay plan inputs) shape s f l is =
-    file_over files f0 f1 f2 l0 l1 l2 plan plan_limit (steps_taken shape) s f l is
-plan_over files f0 f1 f2 l0 l1 l2 (Run workers rounds None inputs) shape s f l is = absurd is
-plan_over files f0 f1 f2 l0 l1 l2 (Run workers rounds (Some plan) inputs) shape s f l is =
+plan_over : (files : Option Files) (f0 f1 f2 l0 l1 l2 : ℕ) (call : Call) (shape : Shape) (weaks : ℕ) (s : Status)
+    → f0 ≤ f1 → l0 ≤ l1 → IsPlanRefused (seen_of files f1 f2 l1 l2) call shape weaks s
+    → IsPlanRefused (seen_of files f0 f2 l0 l2) call shape weaks s
+plan_over files f0 f1 f2 l0 l1 l2 (Solo inputs) shape weaks s f l is = absurd is
+plan_over files f0 f1 f2 l0 l1 l2 (Replay plan inputs) shape weaks s f l is =
+    file_over files f0 f1 f2 l0 l1 l2 plan plan_limit (steps_taken shape weaks) s f l is
+plan_over files f0 f1 f2 l0 l1 l2 (Run workers rounds None inputs) shape weaks s f l is = absurd is
+plan_over files f0 f1 f2 l0 l1 l2 (Run workers rounds (Some plan) inputs) shape weaks s f l is =
     file_over files f0 f1 f2 l0 l1 l2 plan plan_limit (rounds_taken shape workers rounds) s f l is
-plan_over files f0 f1 f2 l0 l1 l2 (Plain inputs) shape s f l is = absurd is
-plan_over files f0 f1 f2 l0 l1 l2 (Load seed lines) shape s f l is = absurd is
-plan_over files f0 f1 f2 l0 l1 l2 (Collect file) shape s f l is = absurd is
-plan_over files f0 f1 f2 l0 l1 l2 (Audit inputs trace) shape s f l is = absurd is
+plan_over files f0 f1 f2 l0 l1 l2 (Plain inputs) shape weaks s f l is = absurd is
+plan_over files f0 f1 f2 l0 l1 l2 (Load seed lines) shape weaks s f l is = absurd is
+plan_over files f0 f1 f2 l0 l1 l2 (Collect file) shape weaks s f l is = absurd is
+plan_over files f0 f1 f2 l0 l1 l2 (Audit inputs trace) shape weaks s f l is = absurd is
+
+-- what is so over what is left of a topology is so over what folding leaves of it
+pub over_left : (P : Shape → ℕ → Type 0) (shape left : Shape) (routes : RoutesView) → left ≡ folded shape → routes ≡ routes_in shape
+    → P left routes.weaks → P (folded shape) (weak_count shape.computations)
+over_left P shape left routes folding ways is =
+    subst (λ (r : RoutesView). P (folded shape) r.weaks) ways (subst (λ (s : Shape). P s routes.weaks) folding is)
 
 -- so it is of the plan, where the topology was taken before and the shelf's files stayed as they were
-pub plan_refused : (files later : Option Files) (f0 f1 f2 l0 l1 l2 : ℕ) (call : Call) (inputs : Inputs) (shape : Shape)
-    (refusal : Refusal)
-    → later ≡ files → HoldsTopology files inputs.topology (length inputs.events) shape → f0 ≤ f1 → l0 ≤ l1
-    → UnlessWant (IsPlanRefused (seen_of later f1 f2 l1 l2) call shape) refusal
+pub plan_refused : (files later : Option Files) (f0 f1 f2 l0 l1 l2 : ℕ) (call : Call) (inputs : Inputs) (left : Shape)
+    (routes : RoutesView) (refusal : Refusal)
+    → later ≡ files → HoldsLeft files inputs.topology (length inputs.events) left routes → f0 ≤ f1 → l0 ≤ l1
+    → UnlessWant (IsPlanRefused (seen_of later f1 f2 l1 l2) call left routes.weaks) refusal
     → UnlessWant (IsRefusedFirst (seen_of files f0 f2 l0 l2) call inputs) refusal
-plan_refused files later f0 f1 f2 l0 l1 l2 call inputs shape refusal unchanged taken f l is =
-    unless_map (IsPlanRefused (seen_of later f1 f2 l1 l2) call shape) (IsRefusedFirst (seen_of files f0 f2 l0 l2) call inputs)
-    refusal (λ s why. inr (record {
-      shape = shape;
-      topology_read = taken;
-      refused = plan_over files f0 f1 f2 l0 l1 l2 call shape s f l
-          (subst (λ (fs : Option Files). IsPlanRefused (seen_of fs f1 f2 l1 l2) call shape s) unchanged why);
+plan_refused files later f0 f1 f2 l0 l1 l2 call inputs left routes refusal unchanged held f l is =
+    unless_map (IsPlanRefused (seen_of later f1 f2 l1 l2) call left routes.weaks)
+    (IsRefusedFirst (seen_of files f0 f2 l0 l2) call inputs) refusal (λ s why. inr (record {
+      shape = held.shape;
+      topology_read = held.topology_read;
+      refused = over_left (λ (t : Shape) (weaks : ℕ). IsPlanRefused (seen_of files f0 f2 l0 l2) call t weaks s) held.shape left routes
+          held.folding held.ways (plan_over files f0 f1 f2 l0 l1 l2 call left routes.weaks s f l
+          (subst (λ (fs : Option Files). IsPlanRefused (seen_of fs f1 f2 l1 l2) call left routes.weaks s) unchanged why));
     })) is
 
 -- why one of the first files was refused is why one of the files was
@@ -106,18 +115,19 @@ first_refused seen call inputs refusal is =
 -- why an event file was refused is why one of the files was, where the topology and the plan were taken before and
 -- the shelf's files stayed as they were
 pub events_refused : (files later : Option Files) (f0 f1 f2 l0 l1 l2 : ℕ) (call : Call) (inputs : Inputs)
-    (names : List (List ℕ)) (shape : Shape) (before : Before) (refusal : Refusal)
-    → names ≡ inputs.events → later ≡ files → HoldsTopology files inputs.topology (length inputs.events) shape
-    → HoldsBefore files call shape before → f0 ≤ f1 → l0 ≤ l1
+    (names : List (List ℕ)) (left : Shape) (routes : RoutesView) (before : Before) (refusal : Refusal)
+    → names ≡ inputs.events → later ≡ files → HoldsLeft files inputs.topology (length inputs.events) left routes
+    → HoldsBefore files call left routes.weaks before → f0 ≤ f1 → l0 ≤ l1
     → UnlessWant (IsSourceRefused (seen_of later f1 f2 l1 l2) 0 lines_limit names) refusal
     → UnlessWant (IsRefused (seen_of files f0 f2 l0 l2) call inputs) refusal
-events_refused files later f0 f1 f2 l0 l1 l2 call inputs names shape before refusal same unchanged taken planned f l is =
+events_refused files later f0 f1 f2 l0 l1 l2 call inputs names left routes before refusal same unchanged held planned f l is =
     unless_map (IsSourceRefused (seen_of later f1 f2 l1 l2) 0 lines_limit names) (IsRefused (seen_of files f0 f2 l0 l2) call inputs)
     refusal (λ s why. inr (record {
-      shape = shape;
-      topology_read = taken;
+      shape = held.shape;
+      topology_read = held.topology_read;
       before = before;
-      plan_read = planned;
+      plan_read = over_left (λ (t : Shape) (weaks : ℕ). HoldsBefore files call t weaks before) held.shape left routes held.folding
+          held.ways planned;
       refused = source_over files f0 f1 f2 l0 l1 l2 0 lines_limit inputs.events s f l
           (subst (λ (fs : Option Files). IsSourceRefused (seen_of fs f1 f2 l1 l2) 0 lines_limit inputs.events s) unchanged
           (subst (λ (ns : List (List ℕ)). IsSourceRefused (seen_of later f1 f2 l1 l2) 0 lines_limit ns s) same why));
@@ -126,7 +136,12 @@ events_refused files later f0 f1 f2 l0 l1 l2 call inputs names shape before refu
 -- the files of the task of an audit's inputs are those of its case
 pub case_held : (files : Option Files) (call : Call) (inputs : Inputs) (task : Task) → IsInputsTask files call inputs task
     → HoldsCase files inputs task.case
-case_held files call inputs task is = record { topology_read = is.topology_read; events_read = is.events_read }
+case_held files call inputs task is = record {
+  shape = is.shape;
+  topology_read = is.topology_read;
+  folding = is.folding;
+  events_read = is.events_read;
+}
 
 -- why a file of an audit's inputs was refused is why the audit was
 pub audit_inputs_refused : (seen : ShelfSeen) (call : Call) (inputs : Inputs) (trace : List ℕ) (refusal : Refusal)

@@ -14,6 +14,7 @@ use Rattle.row_keeper.specs.Rows.{Rows}
 use Rattle.injector.specs.Sources.{Source}
 use Rattle.plain_answer.specs.Plain.{IsPlainText}
 use Rattle.topology.specs.Shapes.{Shape}
+use Rattle.topology.specs.Folding.{folded, weak_count}
 use Rattle.run_history.specs.Cases.{CaseShape}
 use Rattle.json_reading.specs.Refusals.{and_then}
 use Rattle.task_runs.specs.declared.task.Before.{Before}
@@ -28,9 +29,10 @@ use Rattle.millwheel_cli.specs.Audits.{HoldsCase, HoldsWrong, SaysWrong, trace_t
 use Rattle.millwheel_cli.specs.Tasks.{rounds_taken, steps_taken, HoldsBefore, IsInputsTask, IsLoadTask, IsTask}
 use Rattle.millwheel_cli.specs.Collects.{collect_taken}
 use Rattle.millwheel_cli.specs.Asked.{is_unkept}
-use Rattle.millwheel_cli.specs.Reasons.{ShelfSeen, IsCallWrong, IsCommandWrong, IsUnread, IsFileRefused, IsPlanRefused, IsSourceRefused, IsRefused, IsCallRefused, IsCommandRefused, HasReason, file_within, file_as, source_before, sources_taken, before_taken, inputs_taken, load_taken, ended, ran_over, answer_for, answer_of, IsAnswer, AsksUnkept, IsUnkeptAnswer}
+use Rattle.millwheel_cli.specs.Reasons.{ShelfSeen, IsCallWrong, IsCommandWrong, IsUnread, IsFileRefused, IsPlanRefused, IsSourceRefused, IsRefused, IsCallRefused, IsCommandRefused, HasReason, file_within, file_as, source_before, sources_taken, before_folded, before_taken, inputs_taken, load_taken, ended, ran_over, answer_for, answer_of, IsAnswer, AsksUnkept, IsUnkeptAnswer}
 use Rattle.task_runs.specs.Answers.{Left, IsFull, IsDamagedAt, RunLeaves, TextLeaves}
 use Rattle.millwheel_cli.specs.Answers.{IsTextOf, CallLeaves, HasRun, HasDone, HasLeft}
+use Rattle.millwheel_cli.proofs.Reasons.{over_left}
 
 -- what is said of something where it is told is said of it
 told_of : {T : Type 0} (found : Option T) (held : T) (P : T → Type 0) → found ≡ Some held → IfSome found P → P held
@@ -138,39 +140,40 @@ source_refused_as seen held file room (name ∷ names) s told well is = elim is 
 -- what comes behind the topology, and behind the plan
 abbrev behind_topology : Files → Call → Inputs → Result Shape Status → Result (List Source) Status
 behind_topology held call inputs found = and_then found (λ shape.
-    and_then (before_taken held call shape) (λ before. sources_taken held 0 lines_limit inputs.events))
+    and_then (before_folded held call shape) (λ before. sources_taken held 0 lines_limit inputs.events))
 
 -- so behind the plan
 abbrev behind_plan : Files → Inputs → Result Before Status → Result (List Source) Status
 behind_plan held inputs found = and_then found (λ before. sources_taken held 0 lines_limit inputs.events)
 
 -- a plan that was read is taken so
-before_read : (files : Option Files) (held : Files) (call : Call) (shape : Shape) (before : Before) → files ≡ Some held
-    → HoldsBefore files call shape before → before_taken held call shape ≡ Ok before
-before_read files held (Solo inputs) shape before told is = ap Ok (sym is)
-before_read files held (Replay plan inputs) shape before told is =
-    held_as files held plan plan_limit (steps_taken shape) (Ok before) told is
-before_read files held (Run workers rounds None inputs) shape before told is = ap Ok (sym is)
-before_read files held (Run workers rounds (Some plan) inputs) shape before told is =
+before_read : (files : Option Files) (held : Files) (call : Call) (shape : Shape) (weaks : ℕ) (before : Before) → files ≡ Some held
+    → HoldsBefore files call shape weaks before → before_taken held call shape weaks ≡ Ok before
+before_read files held (Solo inputs) shape weaks before told is = ap Ok (sym is)
+before_read files held (Replay plan inputs) shape weaks before told is =
+    held_as files held plan plan_limit (steps_taken shape weaks) (Ok before) told is
+before_read files held (Run workers rounds None inputs) shape weaks before told is = ap Ok (sym is)
+before_read files held (Run workers rounds (Some plan) inputs) shape weaks before told is =
     held_as files held plan plan_limit (rounds_taken shape workers rounds) (Ok before) told is
-before_read files held (Plain inputs) shape before told is = ap Ok (sym is)
-before_read files held (Load seed lines) shape before told is = ap Ok (sym is)
-before_read files held (Collect file) shape before told is = ap Ok (sym is)
-before_read files held (Audit inputs trace) shape before told is = ap Ok (sym is)
+before_read files held (Plain inputs) shape weaks before told is = ap Ok (sym is)
+before_read files held (Load seed lines) shape weaks before told is = ap Ok (sym is)
+before_read files held (Collect file) shape weaks before told is = ap Ok (sym is)
+before_read files held (Audit inputs trace) shape weaks before told is = ap Ok (sym is)
 
 -- a plan that is refused is refused so
-before_refused : (seen : ShelfSeen) (held : Files) (call : Call) (shape : Shape) (s : Status) → seen.files ≡ Some held
-    → (Rose seen.faults.0 seen.faults.1 → ⊥) → IsPlanRefused seen call shape s → before_taken held call shape ≡ Err s
-before_refused seen held (Solo inputs) shape s told well is = absurd is
-before_refused seen held (Replay plan inputs) shape s told well is =
-    refused_as seen held plan plan_limit (steps_taken shape) s told well is
-before_refused seen held (Run workers rounds None inputs) shape s told well is = absurd is
-before_refused seen held (Run workers rounds (Some plan) inputs) shape s told well is =
+before_refused : (seen : ShelfSeen) (held : Files) (call : Call) (shape : Shape) (weaks : ℕ) (s : Status)
+    → seen.files ≡ Some held → (Rose seen.faults.0 seen.faults.1 → ⊥) → IsPlanRefused seen call shape weaks s
+    → before_taken held call shape weaks ≡ Err s
+before_refused seen held (Solo inputs) shape weaks s told well is = absurd is
+before_refused seen held (Replay plan inputs) shape weaks s told well is =
+    refused_as seen held plan plan_limit (steps_taken shape weaks) s told well is
+before_refused seen held (Run workers rounds None inputs) shape weaks s told well is = absurd is
+before_refused seen held (Run workers rounds (Some plan) inputs) shape weaks s told well is =
     refused_as seen held plan plan_limit (rounds_taken shape workers rounds) s told well is
-before_refused seen held (Plain inputs) shape s told well is = absurd is
-before_refused seen held (Load seed lines) shape s told well is = absurd is
-before_refused seen held (Collect file) shape s told well is = absurd is
-before_refused seen held (Audit inputs trace) shape s told well is = absurd is
+before_refused seen held (Plain inputs) shape weaks s told well is = absurd is
+before_refused seen held (Load seed lines) shape weaks s told well is = absurd is
+before_refused seen held (Collect file) shape weaks s told well is = absurd is
+before_refused seen held (Audit inputs trace) shape weaks s told well is = absurd is
 
 -- files of which one is refused are refused so
 inputs_refused : (seen : ShelfSeen) (held : Files) (call : Call) (inputs : Inputs) (s : Status)
@@ -184,11 +187,13 @@ inputs_refused seen held call inputs s told well is =
             (refused_as seen held inputs.topology topology_limit (topology_taken count) s told well topology)
         | inr planned ↦ ap (behind_topology held call inputs)
             (held_as seen.files held inputs.topology topology_limit (topology_taken count) _ told planned.topology_read)
-            ∙ ap (behind_plan held inputs) (before_refused seen held call planned.shape s told well planned.refused)
+            ∙ ap (behind_plan held inputs) (before_refused seen held call (folded planned.shape)
+            (weak_count planned.shape.computations) s told well planned.refused)
       ]
       | inr events ↦ ap (behind_topology held call inputs)
           (held_as seen.files held inputs.topology topology_limit (topology_taken count) _ told events.topology_read)
-          ∙ ap (behind_plan held inputs) (before_read seen.files held call events.shape events.before told events.plan_read)
+          ∙ ap (behind_plan held inputs) (before_read seen.files held call (folded events.shape)
+          (weak_count events.shape.computations) events.before told events.plan_read)
           ∙ source_refused_as seen held 0 lines_limit inputs.events s told well events.refused
     ]
 
@@ -198,7 +203,9 @@ inputs_read : (files : Option Files) (held : Files) (call : Call) (inputs : Inpu
 inputs_read files held call inputs task told is =
     ap (behind_topology held call inputs)
     (held_as files held inputs.topology topology_limit (topology_taken (length inputs.events)) _ told is.topology_read)
-    ∙ ap (behind_plan held inputs) (before_read files held call task.case.topology task.before told is.plan_read)
+    ∙ ap (behind_plan held inputs) (before_read files held call (folded is.shape) (weak_count is.shape.computations) task.before told
+    (over_left (λ (t : Shape) (weaks : ℕ). HoldsBefore files call t weaks task.before) is.shape task.case.topology task.routes is.folding
+    is.ways is.plan_read))
     ∙ sources_as files held 0 lines_limit inputs.events task.case.sources told is.events_read
 
 -- what load runs is taken so

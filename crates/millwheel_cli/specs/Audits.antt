@@ -5,6 +5,8 @@ use Rattle.mw_types.specs.declared.entry.Entry.{Entry}
 use Rattle.mw_ports.specs.Shelves.{Files}
 use Rattle.command_line.specs.declared.command.Inputs.{Inputs}
 use Rattle.serde_json.specs.Data.{Data, object, member, no_members, number, unsigned}
+use Rattle.topology.specs.Shapes.{Shape}
+use Rattle.topology.specs.Folding.{folded}
 use Rattle.run_history.specs.Cases.{CaseShape}
 use Rattle.run_history.specs.Texts.{as_line}
 use Rattle.trace_lines.specs.Readings.{IsRunText}
@@ -16,9 +18,11 @@ use Rattle.millwheel_cli.specs.Files.{HoldsAs, HoldsTopology, HoldsSources}
 
 -- ---- what is read
 
--- the case is that of a topology and of event files, one an injector
+-- the case is that of a topology, without its weak computations, and of event files, one an injector
 pub record HoldsCase (files : Option Files) (inputs : Inputs) (case : CaseShape) : Type 0 where
-  pub topology_read : HoldsTopology files inputs.topology (length inputs.events) case.topology
+  pub shape : Shape
+  pub topology_read : HoldsTopology files inputs.topology (length inputs.events) shape
+  pub folding : case.topology ≡ folded shape
   pub events_read : HoldsSources files 0 lines_limit inputs.events case.sources
 
 -- the bytes of a trace are taken as they are

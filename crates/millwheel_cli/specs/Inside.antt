@@ -1,5 +1,5 @@
 -- How the functions behind the public call answer. No public clause cites this module.
-use Rattle.std.specs.Prelude.{◌≡◌, ◌⊎◌, ℕ, ⊤, List, Option}
+use Rattle.std.specs.Prelude.{◌≡◌, ◌⊎◌, ℕ, ⊤, List, Option, Ok}
 use Rattle.mw_types.specs.declared.refusal.PlanRefusal.{PlanRefusal}
 use Rattle.mw_types.specs.declared.refusal.PlanRefusal.TheVariants as plans
 use Rattle.command_line.specs.declared.refusal.WordsRefusal.{WordsRefusal}
@@ -15,10 +15,14 @@ use Rattle.live_outlet.specs.declared.refusal.CollectRefusal.{CollectRefusal}
 use Rattle.live_outlet.specs.declared.refusal.CollectRefusal.TheVariants as collects
 use Rattle.trace_lines.specs.declared.refusal.AuditRefusal.{AuditRefusal}
 use Rattle.trace_lines.specs.declared.refusal.AuditRefusal.TheVariants as audits
+use Rattle.topology.specs.Shapes.{Shape}
+use Rattle.topology.specs.Rules.{IsTopology}
+use Rattle.topology.specs.Folding.{RoutesView, folded, routes_in}
 use Rattle.run_history.specs.Cases.{CaseShape}
 use Rattle.command_line.specs.declared.command.Call.{Call}
 use Rattle.mw_ports.specs.Shelves.{Files}
 use Rattle.task_runs.specs.declared.task.Task.{Task}
+use Rattle.millwheel_cli.specs.Files.{HoldsTopology, topology_taken}
 use Rattle.millwheel_cli.specs.Tasks.{IsTask}
 use Rattle.millwheel_cli.specs.Reasons.{ShelfSeen, IsCallRefused, IsFileRefused}
 use Rattle.millwheel_cli.specs.Limits.{trace_limit}
@@ -89,6 +93,26 @@ of_words words.NoMemory = status.NoMemory
 abbrev pub IsTraceRefused : ShelfSeen → List ℕ → CaseShape → Status → Type 0
 IsTraceRefused seen trace case status =
     IsFileRefused seen trace trace_limit trace_taken status ⊎ IsTraceWrong seen.files trace case status
+
+-- ---- what is left of a topology
+
+-- bytes are taken for a topology that keeps the rules, and this is left of it without its weak computations,
+-- and the ways through these
+pub record IsLeftOf (count : ℕ) (bytes : List ℕ) (left : Shape) (routes : RoutesView) : Type 0 where
+  pub shape : Shape
+  pub taken : topology_taken count bytes ≡ Ok shape
+  pub rules : IsTopology shape
+  pub folding : left ≡ folded shape
+  pub ways : routes ≡ routes_in shape
+
+-- so it is of the bytes of the file of that name
+pub record HoldsLeft (files : Option Files) (name : List ℕ) (count : ℕ) (left : Shape)
+    (routes : RoutesView) : Type 0 where
+  pub shape : Shape
+  pub topology_read : HoldsTopology files name count shape
+  pub rules : IsTopology shape
+  pub folding : left ≡ folded shape
+  pub ways : routes ≡ routes_in shape
 
 -- ---- how a call ends
 

@@ -11,6 +11,7 @@ use Rattle.command_line.specs.declared.command.Command.{Command}
 use Rattle.mw_ports.specs.Shelves.{Files}
 use Rattle.json_reading.specs.Refusals.{and_then}
 use Rattle.topology.specs.Shapes.{Shape}
+use Rattle.topology.specs.Folding.{folded, weak_count}
 use Rattle.injector.specs.Sources.{Source}
 use Rattle.run_history.specs.Cases.{CaseShape}
 use Rattle.row_keeper.specs.Rows.{Rows}
@@ -68,20 +69,21 @@ IsSourceRefused seen file room (name ∷ names) status =
     ⊎ ((source : Source) × HoldsSource seen.files file room name source
     × IsSourceRefused seen (file + 1) (room - length source) names status)
 
--- why the plan's file of a call is refused, where the call names one
-abbrev pub IsPlanRefused : ShelfSeen → Call → Shape → Status → Type 0
-IsPlanRefused seen (Replay plan inputs) shape status =
-    IsFileRefused seen plan plan_limit (steps_taken shape) status
-IsPlanRefused seen (Run workers rounds (Some plan) inputs) shape status =
+-- why the plan's file of a call is refused, where the call names one, over a topology and so many relays
+abbrev pub IsPlanRefused : ShelfSeen → Call → Shape → ℕ → Status → Type 0
+IsPlanRefused seen (Replay plan inputs) shape weaks status =
+    IsFileRefused seen plan plan_limit (steps_taken shape weaks) status
+IsPlanRefused seen (Run workers rounds (Some plan) inputs) shape weaks status =
     IsFileRefused seen plan plan_limit (rounds_taken shape workers rounds) status
-IsPlanRefused seen _ shape status = ⊥
+IsPlanRefused seen _ shape weaks status = ⊥
 
--- why the plan is refused, which is not read before the topology is taken
+-- why the plan is refused, which is not read before the topology is taken, and speaks of what is left of that
+-- without its weak computations
 pub record IsPlanRefusedBehind (seen : ShelfSeen) (call : Call) (inputs : Inputs)
     (status : Status) : Type 0 where
   pub shape : Shape
   pub topology_read : HoldsTopology seen.files inputs.topology (length inputs.events) shape
-  pub refused : IsPlanRefused seen call shape status
+  pub refused : IsPlanRefused seen call (folded shape) (weak_count shape.computations) status
 
 -- a file that is read before the event files is refused: the topology's, or the plan's
 abbrev pub IsRefusedFirst : ShelfSeen → Call → Inputs → Status → Type 0
@@ -95,7 +97,7 @@ pub record IsEventsRefusedBehind (seen : ShelfSeen) (call : Call) (inputs : Inpu
   pub shape : Shape
   pub topology_read : HoldsTopology seen.files inputs.topology (length inputs.events) shape
   pub before : Before
-  pub plan_read : HoldsBefore seen.files call shape before
+  pub plan_read : HoldsBefore seen.files call (folded shape) (weak_count shape.computations) before
   pub refused : IsSourceRefused seen 0 lines_limit inputs.events status
 
 -- one of the files of a call is refused with the status
@@ -185,20 +187,25 @@ abbrev pub ended : {T : Type 0} → Result T Status → Status → Status
 ended (Ok x) run = run
 ended (Err status) run = status
 
--- what comes before the drain of a call: what the plan's file is taken for, where the call names one
-abbrev pub before_taken : Files → Call → Shape → Result Before Status
-before_taken held (Replay plan inputs) shape = file_as held plan plan_limit (steps_taken shape)
-before_taken held (Run workers rounds None inputs) shape = Ok (Rounds workers rounds [])
-before_taken held (Run workers rounds (Some plan) inputs) shape =
+-- what comes before the drain of a call, over a topology and so many relays: what the plan's file is taken for,
+-- where the call names one
+abbrev pub before_taken : Files → Call → Shape → ℕ → Result Before Status
+before_taken held (Replay plan inputs) shape weaks = file_as held plan plan_limit (steps_taken shape weaks)
+before_taken held (Run workers rounds None inputs) shape weaks = Ok (Rounds workers rounds [])
+before_taken held (Run workers rounds (Some plan) inputs) shape weaks =
     file_as held plan plan_limit (rounds_taken shape workers rounds)
-before_taken held _ shape = Ok (Steps [])
+before_taken held _ shape weaks = Ok (Steps [])
+
+-- the same over what is left of a topology without its weak computations, each of which is a relay
+abbrev pub before_folded : Files → Call → Shape → Result Before Status
+before_folded held call shape = before_taken held call (folded shape) (weak_count shape.computations)
 
 -- what files of a shelf are taken for, as those of a call: the topology is tried first, then the plan, and
 -- then the event files in their order
 abbrev pub inputs_taken : Files → Call → Inputs → Result (List Source) Status
 inputs_taken held call inputs =
     and_then (file_as held inputs.topology topology_limit (topology_taken (length inputs.events))) (λ shape.
-    and_then (before_taken held call shape) (λ before. sources_taken held 0 lines_limit inputs.events))
+    and_then (before_folded held call shape) (λ before. sources_taken held 0 lines_limit inputs.events))
 
 -- how the plain count ends, by files of a shelf: no keeper has a part in it
 abbrev pub plain_for : Files → Inputs → Status

@@ -8,6 +8,8 @@ use Rattle.command_line.specs.declared.command.Call.{Call}
 use Rattle.command_line.specs.declared.command.Call.TheVariants.{Solo, Replay, Run, Plain, Load, Collect, Audit}
 use Rattle.mw_ports.specs.Shelves.{Files}
 use Rattle.topology.specs.Shapes.{Shape}
+use Rattle.topology.specs.Rules.{IsTopology}
+use Rattle.topology.specs.Folding.{folded, routes_in}
 use Rattle.injector.specs.Sources.{Source}
 use Rattle.run_history.specs.Cases.{CaseShape}
 use Rattle.plans.specs.Schedules.{schedule_of}
@@ -31,10 +33,10 @@ planned_of before (Err (plans.Line line)) = Err (PlanRefused line)
 planned_of before (Err plans.NoMemory) = Err NoMemory
 planned_of before (Ok plan) = Ok (before plan)
 
--- the steps that the bytes of a plan are taken for, over a topology, or the status with which they are
--- refused
-abbrev pub steps_taken : Shape → List ℕ → Result Before Status
-steps_taken shape bytes = planned_of Steps (schedule_of shape bytes)
+-- the steps that the bytes of a plan are taken for, over a topology and so many relays, or the status with
+-- which they are refused
+abbrev pub steps_taken : Shape → ℕ → List ℕ → Result Before Status
+steps_taken shape weaks bytes = planned_of Steps (schedule_of shape weaks bytes)
 
 -- the rounds that the bytes of a plan are taken for, over a topology and of so many workers, or the status
 -- with which they are refused
@@ -42,26 +44,31 @@ abbrev pub rounds_taken : Shape → ℕ → ℕ → List ℕ → Result Before S
 rounds_taken shape workers rounds bytes =
     planned_of (Rounds workers rounds) (actions_of shape workers rounds bytes)
 
--- what comes before the drain of a call, over a topology, as the plan's file held it where there is one: of a
--- run its rounds, and of each other call steps
-abbrev pub HoldsBefore : Option Files → Call → Shape → Before → Type 0
-HoldsBefore files (Replay plan inputs) shape before =
-    HoldsAs files plan plan_limit (steps_taken shape) (Ok before)
-HoldsBefore files (Run workers rounds None inputs) shape before = before ≡ Rounds workers rounds []
-HoldsBefore files (Run workers rounds (Some plan) inputs) shape before =
+-- what comes before the drain of a call, over a topology and so many relays, as the plan's file held it where
+-- there is one: of a run its rounds, and of each other call steps
+abbrev pub HoldsBefore : Option Files → Call → Shape → ℕ → Before → Type 0
+HoldsBefore files (Replay plan inputs) shape weaks before =
+    HoldsAs files plan plan_limit (steps_taken shape weaks) (Ok before)
+HoldsBefore files (Run workers rounds None inputs) shape weaks before = before ≡ Rounds workers rounds []
+HoldsBefore files (Run workers rounds (Some plan) inputs) shape weaks before =
     HoldsAs files plan plan_limit (rounds_taken shape workers rounds) (Ok before)
-HoldsBefore files _ shape before = before ≡ Steps []
+HoldsBefore files _ shape weaks before = before ≡ Steps []
 
--- the task is that of a call with these files: a topology, event files, one an injector, and a plan, where
--- the call names one
+-- the task is that of a call with these files: of a topology that keeps the rules, what is left without its
+-- weak computations, and the ways through these; event files, one an injector; and a plan, where the call
+-- names one
 pub record IsInputsTask (files : Option Files) (call : Call) (inputs : Inputs) (task : Task) : Type 0 where
-  pub topology_read : HoldsTopology files inputs.topology (length inputs.events) task.case.topology
-  pub plan_read : HoldsBefore files call task.case.topology task.before
+  pub shape : Shape
+  pub topology_read : HoldsTopology files inputs.topology (length inputs.events) shape
+  pub rules : IsTopology shape
+  pub folding : task.case.topology ≡ folded shape
+  pub ways : task.routes ≡ routes_in shape
+  pub plan_read : HoldsBefore files call task.case.topology task.routes.weaks task.before
   pub events_read : HoldsSources files 0 lines_limit inputs.events task.case.sources
   pub text : task.wanted ≡ wanted_of inputs.history inputs.live
 
--- the case is that of load, by this seed and with so many lines: what solo makes of its topology and of one
--- event file with its lines
+-- the case is that of load, by this seed and with so many lines: what solo makes of its topology, which has no
+-- weak computation, and of one event file with its lines
 pub record IsLoadCase (seed lines : ℕ) (case : CaseShape) : Type 0 where
   pub topology_read : topology_taken 1 load_topology ≡ Ok case.topology
   pub source : Source

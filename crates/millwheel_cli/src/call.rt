@@ -1,15 +1,15 @@
 //! What a call asks for, with its files.
 ghost use Rattle.std.specs.Prelude.{◌≡◌, ◌≤◌, ◌<◌, ◌^◌, length, Err, IfErr, IfOk, IsOk, true};
 ghost use Rattle.topology.specs.Shapes.{injectors_of};
+ghost use Rattle.world.specs.scripts.WorldStates.{IsFolding};
 ghost use Rattle.command_line.specs.Grammar.{HasSizes};
 ghost use Rattle.millwheel_cli.specs.Asked.{has_task, is_run};
-ghost use Rattle.millwheel_cli.specs.Files.{HoldsTopology};
 ghost use Rattle.task_runs.specs.Tasks.{AreThere, is_rounds};
 ghost use Rattle.millwheel_cli.specs.Tasks.{HoldsBefore, IsInputsTask, IsLoadTask, IsTask};
 ghost use Rattle.millwheel_cli.specs.Reasons.{ShelfSeen, IsRefused, IsRefusedFirst, IsCallRefused, IsPlanRefused, IsTopologyRefused, load_taken};
-ghost use Rattle.millwheel_cli.specs.Inside.{UnlessWant};
+ghost use Rattle.millwheel_cli.specs.Inside.{HoldsLeft, UnlessWant};
 
-use crate::form::{bare_case, no_actions, no_steps};
+use crate::form::{Bare, bare_case, no_actions, no_steps};
 use crate::load::load_case;
 use crate::reading::{read_rounds, read_sources, read_steps, read_topology};
 use crate::refusal::Refusal;
@@ -30,7 +30,9 @@ pub fn read_task<S: Shelf>(alloc: Global, shelf: &mut S, call: &Call) -> Result<
     ensures faults_later { S.faults shelf.old ≤ S.faults shelf.new }
     ensures lacks_later { S.lacks shelf.old ≤ S.lacks shelf.new }
     ensures asked { IfOk result (IsTask (S.files shelf.old) call.now) }
-    ensures there { IfOk result (λ task. AreThere task.case.topology task.before) }
+    ensures folding { IfOk result (λ task. IsFolding task.case.topology task.routes) }
+    ensures there { IfOk result
+        (λ task. AreThere task.case.topology task.routes.weaks task.before) }
     ensures rounds { IfOk result (λ task. is_rounds task.before ≡ is_run call.now) }
     ensures refused { let seen : ShelfSeen = record {
       files = S.files shelf.old;
@@ -66,7 +68,9 @@ pub(crate) fn read_inputs<S: Shelf>(
     ensures faults_later { S.faults shelf.old ≤ S.faults shelf.new }
     ensures lacks_later { S.lacks shelf.old ≤ S.lacks shelf.new }
     ensures asked { IfOk result (IsInputsTask (S.files shelf.old) call.now inputs.now) }
-    ensures there { IfOk result (λ task. AreThere task.case.topology task.before) }
+    ensures folding { IfOk result (λ task. IsFolding task.case.topology task.routes) }
+    ensures there { IfOk result
+        (λ task. AreThere task.case.topology task.routes.weaks task.before) }
     ensures rounds { IfOk result (λ task. is_rounds task.before ≡ is_run call.now) }
     ensures refused { let seen : ShelfSeen = record {
       files = S.files shelf.old;
@@ -88,27 +92,27 @@ pub(crate) fn read_inputs<S: Shelf>(
     }
 }
 
-// What is read before the event files: the case of the topology, without a line, and what comes before the
-// drain.
+// What is read before the event files: what is left of the topology, and what comes before the drain.
 fn read_first<S: Shelf>(
     alloc: Global,
     shelf: &mut S,
     call: &Call,
     inputs: &Inputs,
-) -> Result<(Case, Before), Refusal>
+) -> Result<(Bare, Before), Refusal>
     requires sizes { HasSizes call.now }
 
     ensures files { S.files shelf.new ≡ S.files shelf.old }
     ensures faults_later { S.faults shelf.old ≤ S.faults shelf.new }
     ensures lacks_later { S.lacks shelf.old ≤ S.lacks shelf.new }
     ensures few { IsOk result → length inputs.now.events < 2 ^ 32 }
-    ensures topology { IfOk result (λ read. HoldsTopology (S.files shelf.old) inputs.now.topology
-        (length inputs.now.events) read.0.topology) }
+    ensures left { IfOk result (λ read. HoldsLeft (S.files shelf.old) inputs.now.topology
+        (length inputs.now.events) read.0.case.topology read.0.routes) }
     ensures injectors { IfOk result
-        (λ read. injectors_of read.0.topology ≡ length inputs.now.events) }
-    ensures before { IfOk result
-        (λ read. HoldsBefore (S.files shelf.old) call.now read.0.topology read.1) }
-    ensures there { IfOk result (λ read. AreThere read.0.topology read.1) }
+        (λ read. injectors_of read.0.case.topology ≡ length inputs.now.events) }
+    ensures before { IfOk result (λ read. HoldsBefore (S.files shelf.old) call.now
+        read.0.case.topology read.0.routes.weaks read.1) }
+    ensures there { IfOk result
+        (λ read. AreThere read.0.case.topology read.0.routes.weaks read.1) }
     ensures rounds { IfOk result (λ read. is_rounds read.1 ≡ is_run call.now) }
     ensures refused { let seen : ShelfSeen = record {
       files = S.files shelf.old;
@@ -126,16 +130,16 @@ fn read_first<S: Shelf>(
     }
 }
 
-// The case of the topology, without a line.
-fn read_bare<S: Shelf>(alloc: Global, shelf: &mut S, inputs: &Inputs) -> Result<Case, Refusal>
+// What is left of the topology, without a line.
+fn read_bare<S: Shelf>(alloc: Global, shelf: &mut S, inputs: &Inputs) -> Result<Bare, Refusal>
     ensures files { S.files shelf.new ≡ S.files shelf.old }
     ensures faults_later { S.faults shelf.old ≤ S.faults shelf.new }
     ensures lacks_later { S.lacks shelf.old ≤ S.lacks shelf.new }
     ensures few { IsOk result → length inputs.now.events < 2 ^ 32 }
-    ensures topology { IfOk result (λ bare. HoldsTopology (S.files shelf.old) inputs.now.topology
-        (length inputs.now.events) bare.topology) }
+    ensures left { IfOk result (λ bare. HoldsLeft (S.files shelf.old) inputs.now.topology
+        (length inputs.now.events) bare.case.topology bare.routes) }
     ensures injectors { IfOk result
-        (λ bare. injectors_of bare.topology ≡ length inputs.now.events) }
+        (λ bare. injectors_of bare.case.topology ≡ length inputs.now.events) }
     ensures refused { let seen : ShelfSeen = record {
       files = S.files shelf.old;
       faults = (S.faults shelf.old, S.faults shelf.new);
@@ -144,15 +148,15 @@ fn read_bare<S: Shelf>(alloc: Global, shelf: &mut S, inputs: &Inputs) -> Result<
         (length inputs.now.events) inputs.now.topology)) }
 {
     let count = count_of(inputs.events.as_slice())?;
-    let topology = read_topology(alloc, shelf, count, &inputs.topology)?;
-    Ok(bare_case(alloc, topology)?)
+    let folded = read_topology(alloc, shelf, count, &inputs.topology)?;
+    Ok(bare_case(alloc, folded)?)
 }
 
-// What comes before the drain of a call, over the topology of a case.
+// What comes before the drain of a call, over what is left of its topology.
 fn read_before<S: Shelf>(
     alloc: Global,
     shelf: &mut S,
-    case: &Case,
+    bare: &Bare,
     call: &Call,
 ) -> Result<Before, Refusal>
     requires sizes { HasSizes call.now }
@@ -160,23 +164,26 @@ fn read_before<S: Shelf>(
     ensures files { S.files shelf.new ≡ S.files shelf.old }
     ensures faults_later { S.faults shelf.old ≤ S.faults shelf.new }
     ensures lacks_later { S.lacks shelf.old ≤ S.lacks shelf.new }
-    ensures before { IfOk result (HoldsBefore (S.files shelf.old) call.now case.now.topology) }
-    ensures there { IfOk result (AreThere case.now.topology) }
+    ensures before { IfOk result (HoldsBefore (S.files shelf.old) call.now
+        bare.now.case.topology bare.now.routes.weaks) }
+    ensures there { IfOk result (AreThere bare.now.case.topology bare.now.routes.weaks) }
     ensures rounds { IfOk result (λ before. is_rounds before ≡ is_run call.now) }
     ensures refused { let seen : ShelfSeen = record {
       files = S.files shelf.old;
       faults = (S.faults shelf.old, S.faults shelf.new);
       lacks = (S.lacks shelf.old, S.lacks shelf.new);
-    } in IfErr result (UnlessWant (IsPlanRefused seen call.now case.now.topology)) }
+    } in IfErr result (UnlessWant (IsPlanRefused seen call.now
+        bare.now.case.topology bare.now.routes.weaks)) }
 {
+    let case = &bare.case;
     match call {
-        Call::Replay { plan, inputs: _ } => read_steps(alloc, shelf, case, plan),
+        Call::Replay { plan, inputs: _ } => read_steps(alloc, shelf, bare, plan),
         Call::Run {
             workers,
             rounds,
             plan: Some(plan),
             inputs: _,
-        } => read_rounds(alloc, shelf, case, *workers, *rounds, plan),
+        } => read_rounds(alloc, shelf, bare, *workers, *rounds, plan),
         Call::Run {
             workers,
             rounds,
@@ -191,23 +198,26 @@ fn read_before<S: Shelf>(
     }
 }
 
-// The task of a topology, of what comes before its drain, and of what its injectors have.
+// The task of what is left of a topology, of what comes before its drain, and of what its injectors have.
 fn task_of(
     alloc: Global,
-    bare: Case,
+    bare: Bare,
     before: Before,
     sources: ItemsList,
     wanted: Wanted,
 ) -> Result<Task, NoMemory>
-    requires { length sources ≡ injectors_of bare.topology }
+    requires { length sources ≡ injectors_of bare.case.topology }
     ensures case { IfOk result
-        (λ task. task.case ≡ record { topology = bare.topology; sources = sources }) }
+        (λ task. task.case ≡ record { topology = bare.case.topology; sources = sources }) }
+    ensures routes { IfOk result (λ task. task.routes ≡ bare.routes) }
     ensures before { IfOk result (λ task. task.before ≡ before) }
     ensures wanted { IfOk result (λ task. task.wanted ≡ wanted) }
 {
-    let case = Case::of(alloc, bare.topology, sources)?;
+    let Bare { case, routes } = bare;
+    let case = Case::of(alloc, case.topology, sources)?;
     Ok(Task {
         case,
+        routes,
         before,
         wanted,
     })
@@ -227,13 +237,15 @@ fn count_of(events: &[Name]) -> Result<u32, NoMemory>
 // The task of load, by a seed and with so many lines.
 fn load_task(alloc: Global, seed: u32, lines: u32) -> Result<Task, Refusal>
     ensures asked { IfOk result (IsLoadTask seed lines) }
+    ensures folding { IfOk result (λ task. IsFolding task.case.topology task.routes) }
     ensures refused { IfErr result (UnlessWant (λ status. load_taken seed lines ≡ Err status)) }
 {
-    let case = load_case(alloc, seed, lines)?;
+    let (case, routes) = load_case(alloc, seed, lines)?;
     let before = no_steps(alloc, &case)?;
     let wanted = Wanted::SummaryAlone;
     Ok(Task {
         case,
+        routes,
         before,
         wanted,
     })

@@ -1,11 +1,12 @@
 //! What the bytes of files are taken for.
 ghost use Rattle.std.specs.Prelude.{◌≡◌, ◌<◌, ◌^◌, [], false, length, true, Err, IfErr, IfOk, Ok};
 ghost use Rattle.topology.specs.Shapes.{injectors_of};
+ghost use Rattle.topology.specs.Rules.{IsTopology};
 ghost use Rattle.command_line.specs.Grammar.{AreSizes};
 ghost use Rattle.millwheel_cli.specs.Files.{topology_taken, source_taken};
 ghost use Rattle.task_runs.specs.Tasks.{AreThere, is_rounds};
 ghost use Rattle.millwheel_cli.specs.Tasks.{rounds_taken, steps_taken};
-ghost use Rattle.millwheel_cli.specs.Inside.{of_lines, UnlessWant};
+ghost use Rattle.millwheel_cli.specs.Inside.{IsLeftOf, of_lines, UnlessWant};
 
 use crate::refusal::Refusal;
 use injector::{Items, ItemsList, LinesRefusal, read_lines};
@@ -14,11 +15,25 @@ use plans::{Actions, Schedule, read_actions, read_schedule};
 use run_history::Case;
 use std::alloc::Global;
 use task_runs::Before;
-use topology::{Topology, read};
+use topology::{Folded, Routes, Topology, read};
 
-/// The topology that these bytes are taken for, which has an injector for each event file.
-pub fn topology_of(alloc: Global, count: u32, bytes: &[u8]) -> Result<Topology, Refusal>
+/// What is left of the topology that these bytes are taken for, without its weak computations. It has an
+/// injector for each event file.
+pub fn topology_of(alloc: Global, count: u32, bytes: &[u8]) -> Result<Folded, Refusal>
+    ensures left { IfOk result
+        (λ folded. IsLeftOf count bytes.now folded.topology folded.routes) }
+    ensures injectors { IfOk result (λ folded. injectors_of folded.topology ≡ count) }
+    ensures refused { IfErr result
+        (UnlessWant (λ status. topology_taken count bytes.now ≡ Err status)) }
+{
+    let topology = stated_by(alloc, count, bytes)?;
+    Ok(topology.fold(alloc)?)
+}
+
+// The topology that these bytes are taken for, which has an injector for each event file.
+fn stated_by(alloc: Global, count: u32, bytes: &[u8]) -> Result<Topology, Refusal>
     ensures taken { IfOk result (λ topology. topology_taken count bytes.now ≡ Ok topology) }
+    ensures rules { IfOk result IsTopology }
     ensures injectors { IfOk result (λ topology. injectors_of topology ≡ count) }
     ensures refused { IfErr result
         (UnlessWant (λ status. topology_taken count bytes.now ≡ Err status)) }
@@ -32,12 +47,25 @@ pub fn topology_of(alloc: Global, count: u32, bytes: &[u8]) -> Result<Topology, 
     Ok(topology)
 }
 
-/// The case of a topology whose injectors have no line: a plan speaks of the topology alone.
-pub fn bare_case(alloc: Global, topology: Topology) -> Result<Case, NoMemory>
-    ensures { IfOk result (λ case. case.topology ≡ topology) }
+/// What is left of a topology without its weak computations, before any line is read: a plan speaks of
+/// that alone.
+#[derive(Drop)]
+pub struct Bare {
+    /// The case of what is left, whose injectors have no line.
+    pub case: Case,
+    /// The ways through the weak computations.
+    pub routes: Routes,
+}
+
+/// What is left of a topology, without a line.
+pub fn bare_case(alloc: Global, folded: Folded) -> Result<Bare, NoMemory>
+    ensures case { IfOk result (λ bare. bare.case.topology ≡ folded.topology) }
+    ensures routes { IfOk result (λ bare. bare.routes ≡ folded.routes) }
 {
+    let Folded { topology, routes } = folded;
     let sources = no_lines(alloc, topology.injectors())?;
-    Case::of(alloc, topology, sources)
+    let case = Case::of(alloc, topology, sources)?;
+    Ok(Bare { case, routes })
 }
 
 // So many sources without a line.
@@ -51,23 +79,24 @@ fn no_lines(alloc: Global, count: u32) -> Result<ItemsList, NoMemory>
     Ok(sources)
 }
 
-/// The steps that the bytes of a plan are taken for, over the topology of a case.
-pub fn steps_of(alloc: Global, case: &Case, bytes: &[u8]) -> Result<Before, Refusal>
+/// The steps that the bytes of a plan are taken for, over what is left of a topology.
+pub fn steps_of(alloc: Global, bare: &Bare, bytes: &[u8]) -> Result<Before, Refusal>
     requires { length bytes.now < 2 ^ 32 }
-    ensures taken { IfOk result (λ before. steps_taken case.now.topology bytes.now ≡ Ok before) }
-    ensures there { IfOk result (AreThere case.now.topology) }
+    ensures taken { IfOk result (λ before.
+        steps_taken bare.now.case.topology bare.now.routes.weaks bytes.now ≡ Ok before) }
+    ensures there { IfOk result (AreThere bare.now.case.topology bare.now.routes.weaks) }
     ensures steps { IfOk result (λ before. is_rounds before ≡ false) }
-    ensures refused { IfErr result
-        (UnlessWant (λ status. steps_taken case.now.topology bytes.now ≡ Err status)) }
+    ensures refused { IfErr result (UnlessWant (λ status.
+        steps_taken bare.now.case.topology bare.now.routes.weaks bytes.now ≡ Err status)) }
 {
-    let steps = read_schedule(alloc, bytes, case)?;
+    let steps = read_schedule(alloc, bytes, &bare.case, bare.routes.weaks())?;
     Ok(Before::Steps { steps })
 }
 
-/// The rounds that the bytes of a plan are taken for, over the topology of a case and of so many workers.
+/// The rounds that the bytes of a plan are taken for, over what is left of a topology and of so many workers.
 pub fn rounds_of(
     alloc: Global,
-    case: &Case,
+    bare: &Bare,
     workers: u32,
     rounds: u32,
     bytes: &[u8],
@@ -76,13 +105,13 @@ pub fn rounds_of(
     requires sizes { AreSizes workers rounds }
 
     ensures taken { IfOk result
-        (λ before. rounds_taken case.now.topology workers rounds bytes.now ≡ Ok before) }
-    ensures there { IfOk result (AreThere case.now.topology) }
+        (λ before. rounds_taken bare.now.case.topology workers rounds bytes.now ≡ Ok before) }
+    ensures there { IfOk result (AreThere bare.now.case.topology bare.now.routes.weaks) }
     ensures rounds { IfOk result (λ before. is_rounds before ≡ true) }
     ensures refused { IfErr result (UnlessWant
-        (λ status. rounds_taken case.now.topology workers rounds bytes.now ≡ Err status)) }
+        (λ status. rounds_taken bare.now.case.topology workers rounds bytes.now ≡ Err status)) }
 {
-    let actions = read_actions(alloc, bytes, case, workers, rounds)?;
+    let actions = read_actions(alloc, bytes, &bare.case, workers, rounds)?;
     Ok(Before::Rounds {
         workers,
         rounds,
@@ -102,7 +131,7 @@ pub fn no_steps(alloc: Global, case: &Case) -> Result<Before, NoMemory>
 fn no_schedule(alloc: Global, case: &Case) -> Result<Schedule, NoMemory>
     ensures { IfOk result (λ steps. steps ≡ []) }
 {
-    match read_schedule(alloc, &[], case) {
+    match read_schedule(alloc, &[], case, 0) {
         Ok(steps) => Ok(steps),
         Err(PlanRefusal::NoMemory) => Err(NoMemory),
         Err(PlanRefusal::Line { .. }) => unreachable!(),

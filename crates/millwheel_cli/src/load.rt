@@ -1,8 +1,9 @@
 //! What the mode `load` runs.
 ghost use Rattle.std.specs.Prelude.{◌≡◌, ◌<◌, ◌+◌, ◌*◌, ◌%◌, ◌++◌, [], ◌∷◌, Ok, Err, OnOk, IfOk, IfErr};
 ghost use Rattle.topology.specs.Shapes.{injectors_of};
+ghost use Rattle.world.specs.scripts.WorldStates.{IsFolding};
 ghost use Rattle.millwheel_cli.specs.Limits.{lines_limit};
-ghost use Rattle.millwheel_cli.specs.Files.{source_taken};
+ghost use Rattle.millwheel_cli.specs.Files.{source_taken, topology_taken};
 ghost use Rattle.millwheel_cli.specs.Loads.{drawn_after, record_line, mark_line, load_text, load_topology};
 ghost use Rattle.millwheel_cli.specs.Tasks.{IsLoadCase};
 ghost use Rattle.millwheel_cli.specs.Reasons.{load_taken};
@@ -15,7 +16,7 @@ use mw_types::{Bytes, NoMemory, Seq};
 use run_history::Case;
 use std::alloc::Global;
 use text_lines::LINES_MAX;
-use topology::Topology;
+use topology::{Folded, Routes, Topology};
 
 // The topology of load: one injector, and a count over windows of 60, in three intervals.
 const TOPOLOGY: &str =
@@ -25,16 +26,27 @@ const TOPOLOGY: &str =
 const DRAWN: u32 = 65537;
 
 /// The case of load, by a seed and with so many lines: what solo makes of its topology and of one file
-/// with these lines.
-pub fn load_case(alloc: Global, seed: u32, lines: u32) -> Result<Case, Refusal>
-    ensures made { IfOk result (IsLoadCase seed lines) }
+/// with these lines, and the ways through the weak computations of that topology, which has none.
+pub fn load_case(alloc: Global, seed: u32, lines: u32) -> Result<(Case, Routes), Refusal>
+    ensures made { IfOk result (λ made. IsLoadCase seed lines made.0) }
+    ensures folding { IfOk result (λ made. IsFolding made.0.topology made.1) }
     ensures refused { IfErr result (UnlessWant (λ status. load_taken seed lines ≡ Err status)) }
 {
-    let text = load_topology();
-    let topology = topology_of(alloc, 1, text)?;
+    let Folded { topology, routes } = load_folded(alloc)?;
     let items = load_items(alloc, seed, lines)?;
     let case = one_source(alloc, topology, items)?;
-    Ok(case)
+    Ok((case, routes))
+}
+
+// What is left of the topology of load: all of it, since it has no weak computation.
+fn load_folded(alloc: Global) -> Result<Folded, Refusal>
+    ensures taken { IfOk result (λ folded. topology_taken 1 load_topology ≡ Ok folded.topology) }
+    ensures folding { IfOk result (λ folded. IsFolding folded.topology folded.routes) }
+    ensures injectors { IfOk result (λ folded. injectors_of folded.topology ≡ 1) }
+    ensures refused { IfErr result
+        (UnlessWant (λ status. topology_taken 1 load_topology ≡ Err status)) }
+{
+    topology_of(alloc, 1, load_topology())
 }
 
 // The topology of load, as its file would have it.

@@ -3,22 +3,21 @@ ghost use Rattle.std.specs.Prelude.{◌≡◌, ◌≤◌, ◌<◌, ◌^◌, fals
 ghost use Rattle.topology.specs.Shapes.{injectors_of};
 ghost use Rattle.command_line.specs.Grammar.{AreSizes};
 ghost use Rattle.millwheel_cli.specs.Limits.{events_limit, lines_limit, plan_limit};
-ghost use Rattle.millwheel_cli.specs.Files.{source_taken, IsContent, HoldsAs, HoldsTopology, HoldsSource, HoldsSources};
+ghost use Rattle.millwheel_cli.specs.Files.{source_taken, IsContent, HoldsAs, HoldsSource, HoldsSources};
 ghost use Rattle.task_runs.specs.Tasks.{AreThere, is_rounds};
 ghost use Rattle.millwheel_cli.specs.Tasks.{rounds_taken, steps_taken};
 ghost use Rattle.millwheel_cli.specs.Reasons.{ShelfSeen, IsUnread, IsFileRefused, IsTopologyRefused, IsSourceRefused};
-ghost use Rattle.millwheel_cli.specs.Inside.{of_shelf, UnlessWant};
+ghost use Rattle.millwheel_cli.specs.Inside.{HoldsLeft, of_shelf, UnlessWant};
 
-use crate::form::{items_of, rounds_of, steps_of, topology_of};
+use crate::form::{Bare, items_of, rounds_of, steps_of, topology_of};
 use crate::refusal::Refusal;
 use injector::{Items, ItemsList};
 use mw_ports::{Shelf, ShelfFault};
 use mw_types::{Bytes, Duplicate, Name, NoMemory, Seq};
-use run_history::Case;
 use std::alloc::Global;
 use task_runs::Before;
 use text_lines::LINES_MAX;
-use topology::Topology;
+use topology::Folded;
 
 // How many bytes a topology may have.
 const TOPOLOGY_MAX: u64 = 1 << 20;
@@ -29,18 +28,20 @@ const PLAN_MAX: u64 = 1 << 20;
 // How many bytes an event file may have.
 const EVENTS_MAX: u64 = 1 << 25;
 
-/// The topology in the file of that name, for so many event files.
+/// What is left of the topology in the file of that name, for so many event files, without its weak
+/// computations.
 pub fn read_topology<S: Shelf>(
     alloc: Global,
     shelf: &mut S,
     count: u32,
     name: &Name,
-) -> Result<Topology, Refusal>
+) -> Result<Folded, Refusal>
     ensures files { S.files shelf.new ≡ S.files shelf.old }
     ensures faults_later { S.faults shelf.old ≤ S.faults shelf.new }
     ensures lacks_later { S.lacks shelf.old ≤ S.lacks shelf.new }
-    ensures topology { IfOk result (HoldsTopology (S.files shelf.old) name.now count) }
-    ensures injectors { IfOk result (λ topology. injectors_of topology ≡ count) }
+    ensures left { IfOk result (λ folded.
+        HoldsLeft (S.files shelf.old) name.now count folded.topology folded.routes) }
+    ensures injectors { IfOk result (λ folded. injectors_of folded.topology ≡ count) }
     ensures refused { let seen : ShelfSeen = record {
       files = S.files shelf.old;
       faults = (S.faults shelf.old, S.faults shelf.new);
@@ -48,15 +49,14 @@ pub fn read_topology<S: Shelf>(
     } in IfErr result (UnlessWant (IsTopologyRefused seen count name.now)) }
 {
     let bytes = read_file(alloc, shelf, name, TOPOLOGY_MAX)?;
-    let topology = topology_of(alloc, count, bytes.as_slice())?;
-    Ok(topology)
+    topology_of(alloc, count, bytes.as_slice())
 }
 
-/// The steps in the plan's file of that name, over the topology of a case.
+/// The steps in the plan's file of that name, over what is left of a topology.
 pub fn read_steps<S: Shelf>(
     alloc: Global,
     shelf: &mut S,
-    case: &Case,
+    bare: &Bare,
     name: &Name,
 ) -> Result<Before, Refusal>
     ensures files { S.files shelf.new ≡ S.files shelf.old }
@@ -64,25 +64,25 @@ pub fn read_steps<S: Shelf>(
     ensures lacks_later { S.lacks shelf.old ≤ S.lacks shelf.new }
     ensures plan { IfOk result
         (λ before. HoldsAs (S.files shelf.old) name.now plan_limit
-        (steps_taken case.now.topology) (Ok before)) }
-    ensures there { IfOk result (AreThere case.now.topology) }
+        (steps_taken bare.now.case.topology bare.now.routes.weaks) (Ok before)) }
+    ensures there { IfOk result (AreThere bare.now.case.topology bare.now.routes.weaks) }
     ensures steps { IfOk result (λ before. is_rounds before ≡ false) }
     ensures refused { let seen : ShelfSeen = record {
       files = S.files shelf.old;
       faults = (S.faults shelf.old, S.faults shelf.new);
       lacks = (S.lacks shelf.old, S.lacks shelf.new);
     } in IfErr result (UnlessWant (IsFileRefused seen name.now plan_limit
-        (steps_taken case.now.topology))) }
+        (steps_taken bare.now.case.topology bare.now.routes.weaks))) }
 {
     let bytes = read_file(alloc, shelf, name, PLAN_MAX)?;
-    steps_of(alloc, case, bytes.as_slice())
+    steps_of(alloc, bare, bytes.as_slice())
 }
 
-/// The rounds in the plan's file of that name, over the topology of a case and of so many workers.
+/// The rounds in the plan's file of that name, over what is left of a topology and of so many workers.
 pub fn read_rounds<S: Shelf>(
     alloc: Global,
     shelf: &mut S,
-    case: &Case,
+    bare: &Bare,
     workers: u32,
     rounds: u32,
     name: &Name,
@@ -94,18 +94,18 @@ pub fn read_rounds<S: Shelf>(
     ensures lacks_later { S.lacks shelf.old ≤ S.lacks shelf.new }
     ensures plan { IfOk result
         (λ before. HoldsAs (S.files shelf.old) name.now plan_limit
-        (rounds_taken case.now.topology workers rounds) (Ok before)) }
-    ensures there { IfOk result (AreThere case.now.topology) }
+        (rounds_taken bare.now.case.topology workers rounds) (Ok before)) }
+    ensures there { IfOk result (AreThere bare.now.case.topology bare.now.routes.weaks) }
     ensures rounds { IfOk result (λ before. is_rounds before ≡ true) }
     ensures refused { let seen : ShelfSeen = record {
       files = S.files shelf.old;
       faults = (S.faults shelf.old, S.faults shelf.new);
       lacks = (S.lacks shelf.old, S.lacks shelf.new);
     } in IfErr result (UnlessWant (IsFileRefused seen name.now plan_limit
-        (rounds_taken case.now.topology workers rounds))) }
+        (rounds_taken bare.now.case.topology workers rounds))) }
 {
     let bytes = read_file(alloc, shelf, name, PLAN_MAX)?;
-    rounds_of(alloc, case, workers, rounds, bytes.as_slice())
+    rounds_of(alloc, bare, workers, rounds, bytes.as_slice())
 }
 
 /// What the event files of these names hold, each with the room for record lines that those before it

@@ -2,6 +2,7 @@
 ghost use Rattle.std.specs.Prelude.{◌≡◌, ◌≤◌, [], false, true};
 ghost use Rattle.std.specs.Option.{is_some};
 ghost use Rattle.mw_types.specs.Causes.{Rose};
+ghost use Rattle.world.specs.scripts.WorldStates.{IsFolding};
 ghost use Rattle.millwheel_cli.specs.Asked.{has_task, is_run, is_unkept};
 ghost use Rattle.task_runs.specs.Tasks.{AreThere, is_at_once, is_rounds};
 ghost use Rattle.task_runs.specs.Answers.{Left};
@@ -25,7 +26,8 @@ pub fn work_alone<K: Keeper, O: Sink>(
     out: &mut O,
 ) -> Done<K>
     requires task { has_task call.now ≡ true }
-    requires there { AreThere task.now.case.topology task.now.before }
+    requires folding { IsFolding task.now.case.topology task.now.routes }
+    requires there { AreThere task.now.case.topology task.now.routes.weaks task.now.before }
     requires alone { is_rounds task.now.before ≡ false }
 
     ensures keeper_later { K.faults keeper ≤ K.faults result.keeper }
@@ -69,7 +71,8 @@ where
     O: Sink,
     G: Gate + Sync,
     requires task { has_task call.now ≡ true }
-    requires there { AreThere task.now.case.topology task.now.before }
+    requires folding { IsFolding task.now.case.topology task.now.routes }
+    requires there { AreThere task.now.case.topology task.now.routes.weaks task.now.before }
     requires rounds { is_rounds task.now.before ≡ is_run call.now }
     requires late { is_run call.now ≡ true → is_at_once task.now.wanted ≡ false }
 

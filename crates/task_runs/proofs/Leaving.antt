@@ -5,6 +5,7 @@ use Rattle.mw_types.specs.declared.identity.RowName.{RowName}
 use Rattle.mw_types.specs.declared.entry.Entry.{Entry}
 use Rattle.row_keeper.specs.Rows.{Rows}
 use Rattle.topology.specs.Shapes.{Shape}
+use Rattle.topology.specs.Folding.{RoutesView}
 use Rattle.run_history.specs.Cases.{CaseShape}
 use Rattle.run_history.specs.Runs.{run_of}
 use Rattle.run_history.specs.Finished.{IsFinished}
@@ -119,13 +120,14 @@ no_order SummaryAlone before shape history text late = tt
 no_order EachAtOnce before shape history text late = absurd (true≢false late)
 
 -- nor of a replay
-no_replay : (wanted : Wanted) (before : Before) (case : CaseShape) (history : List Entry) (text : Option (List ℕ) × Option (List ℕ))
-    (rows : Option Rows) → is_at_once wanted ≡ false → IfSome rows (λ _. IsLiveReplay wanted before case history text)
-no_replay wanted before case history text None late = tt
-no_replay ResultAlone before case history text (Some rows) late = tt
-no_replay HistoryFirst before case history text (Some rows) late = tt
-no_replay SummaryAlone before case history text (Some rows) late = tt
-no_replay EachAtOnce before case history text (Some rows) late = absurd (true≢false late)
+no_replay : (wanted : Wanted) (before : Before) (routes : RoutesView) (case : CaseShape) (history : List Entry)
+    (text : Option (List ℕ) × Option (List ℕ)) (rows : Option Rows) → is_at_once wanted ≡ false
+    → IfSome rows (λ _. IsLiveReplay wanted before routes case history text)
+no_replay wanted before routes case history text None late = tt
+no_replay ResultAlone before routes case history text (Some rows) late = tt
+no_replay HistoryFirst before routes case history text (Some rows) late = tt
+no_replay SummaryAlone before routes case history text (Some rows) late = tt
+no_replay EachAtOnce before routes case history text (Some rows) late = absurd (true≢false late)
 
 -- and where nothing was written, that is the text so far
 pub unwritten : (wanted : Wanted) (shape : Shape) (history : List Entry) (text : Option (List ℕ) × Option (List ℕ))
@@ -145,7 +147,7 @@ wrote task left status.Ok late run plain is = record {
   in_order = no_order task.wanted task.before task.case.topology left.history is.text late;
   written = is.written;
   plain = plain is.text is.whole;
-  replayed = no_replay task.wanted task.before task.case left.history left.text left.rows.1 late;
+  replayed = no_replay task.wanted task.before task.routes task.case left.history left.text left.rows.1 late;
 }
 wrote task left status.Usage late run plain is = absurd is
 wrote task left (status.NoFile n) late run plain is = absurd is
@@ -183,7 +185,7 @@ wrote_as task left history s late told run plain is = wrote task left s late run
 pub stopped : (task : Task) (left : Left) (fault : NodeFault) → IsRun task left
     → IsTextSoFar task.wanted task.case.topology left.history left.text
     → (fault ≡ faults.HistoryFull → length left.history ≡ history_limit)
-    → (fault ≡ faults.HistoryFull → IfSome left.rows.1 (λ _. IsShortOf task.case task.before left.history))
+    → (fault ≡ faults.HistoryFull → IfSome left.rows.1 (λ _. IsShortOf task.routes task.case task.before left.history))
     → ((name : RowName) (bytes : List ℕ) → fault ≡ faults.RowDamaged name bytes
     → (count : ℕ) × IsReadAfter task.before count left.history × IsDamagedRow task.case left.rows.1 count name bytes)
     → RunLeaves task left (of_drain fault)

@@ -9,6 +9,7 @@ use Rattle.list_lemmas.proofs.Told.{if-same}
 use Rattle.mw_types.specs.declared.delivery.Emission.{Emission}
 use Rattle.mw_types.specs.declared.entry.Entry.{Entry}
 use Rattle.topology.specs.Shapes.{Shape}
+use Rattle.topology.specs.Folding.{RoutesView}
 use Rattle.row_keeper.specs.Rows.{Rows}
 use Rattle.run_history.specs.Cases.{CaseShape}
 use Rattle.run_history.specs.Fences.{Begins}
@@ -186,12 +187,13 @@ writes-on case other front history first old new text some grown same begins was
 -- ---- a replay
 
 -- the drain behind a script writes the rest
-written-replay : (case : CaseShape) (steps : List Step) (history : List Entry) (mid new : OutletView) (text some grown : Option (List ℕ))
-    → WritesLines (script_lines case (empty_world case.topology) 0 steps) mid text some
-    → GoesOnBy (pumped_from case.topology history mid.place) mid new some grown → WritesReplay case steps history text grown
-written-replay case steps history mid new text some grown first goes =
+written-replay : (routes : RoutesView) (case : CaseShape) (steps : List Step) (history : List Entry) (mid new : OutletView)
+    (text some grown : Option (List ℕ))
+    → WritesLines (script_lines case (empty_world routes case.topology) 0 steps) mid text some
+    → GoesOnBy (pumped_from case.topology history mid.place) mid new some grown → WritesReplay routes case steps history text grown
+written-replay routes case steps history mid new text some grown first goes =
     let writes = goes first.none_owed in
-    let script = script_lines case (empty_world case.topology) 0 steps in
+    let script = script_lines case (empty_world routes case.topology) 0 steps in
     let rest = pumped_from case.topology history mid.place in
     writes.wrote ∙ ap (λ (t : Option (List ℕ)). append_known t (ended rest.0)) first.wrote
     ∙ more-again text (ended script.0) (ended rest.0)
@@ -199,15 +201,15 @@ written-replay case steps history mid new text some grown first goes =
     ∙ ap (λ (n : ℕ). append_known text (ended (script.0 ++ (pumped_from case.topology history n).0))) first.place
 
 -- so it is where rows are seen
-pub replayed-lines : (case other : CaseShape) (world : World) (place : ℕ) (steps : List Step) (history : List Entry)
+pub replayed-lines : (routes : RoutesView) (case other : CaseShape) (world : World) (place : ℕ) (steps : List Step) (history : List Entry)
     (mid new : OutletView) (text some grown : Option (List ℕ)) (rows : Option Rows) → other ≡ case
-    → world ≡ empty_world case.topology → place ≡ 0
+    → world ≡ empty_world routes case.topology → place ≡ 0
     → IfSome rows (λ _. WritesLines (script_lines case world place steps) mid text some)
     → GoesOnBy (pumped_from other.topology history mid.place) mid new some grown
-    → IfSome rows (λ _. WritesReplay case steps history text grown)
-replayed-lines case other world place steps history mid new text some grown rows same begun none first goes =
+    → IfSome rows (λ _. WritesReplay routes case steps history text grown)
+replayed-lines routes case other world place steps history mid new text some grown rows same begun none first goes =
     if-same rows rows _ _ refl (λ (lines : WritesLines (script_lines case world place steps) mid text some).
-    written-replay case steps history mid new text some grown
-    (subst (λ (n : ℕ). WritesLines (script_lines case (empty_world case.topology) n steps) mid text some) none
+    written-replay routes case steps history mid new text some grown
+    (subst (λ (n : ℕ). WritesLines (script_lines case (empty_world routes case.topology) n steps) mid text some) none
     (subst (λ (w : World). WritesLines (script_lines case w place steps) mid text some) begun lines))
     (subst (λ (k : CaseShape). GoesOnBy (pumped_from k.topology history mid.place) mid new some grown) same goes)) first

@@ -55,7 +55,7 @@ behind-text text some grown front back wrote part =
 module _ (task : Task) (left : Left) (steps : List Step) (mid : Option (List ℕ)) (live : task.wanted ≡ EachAtOnce)
     (before : task.before ≡ Steps steps) (run : IsWholeRun task left)
     (has : HasResults task.case.topology left.history (length steps == 0) left.text.0 mid)
-    (lines : IfSome left.rows.1 (λ _. WritesReplay task.case steps left.history left.text.0 mid)) where
+    (lines : IfSome left.rows.1 (λ _. WritesReplay task.routes task.case steps left.history left.text.0 mid)) where
   -- the lines of all results, and the summary line
   all_text : List ℕ
   all_text = ended has.so_far.lines ++ as_line (summary_data left.history)
@@ -84,14 +84,14 @@ module _ (task : Task) (left : Left) (steps : List Step) (mid : Option (List ℕ
 
   -- the lines of the replay, and the summary line
   replayed : left.text.1 ≡ append_known mid (as_line (summary_data left.history)) → (rows : Option Rows)
-      → IfSome rows (λ _. WritesReplay task.case steps left.history left.text.0 mid)
-      → IfSome rows (λ _. IsLiveReplay task.wanted task.before task.case left.history left.text)
+      → IfSome rows (λ _. WritesReplay task.routes task.case steps left.history left.text.0 mid)
+      → IfSome rows (λ _. IsLiveReplay task.wanted task.before task.routes task.case left.history left.text)
   replayed is None lines = tt
   replayed is (Some rows) lines =
-      subst (λ (w : Wanted). IsLiveReplay w task.before task.case left.history left.text) (sym live)
-      (subst (λ (b : Before). IsLiveReplay EachAtOnce b task.case left.history left.text) (sym before)
+      subst (λ (w : Wanted). IsLiveReplay w task.before task.routes task.case left.history left.text) (sym live)
+      (subst (λ (b : Before). IsLiveReplay EachAtOnce b task.routes task.case left.history left.text) (sym before)
       (is ∙ ap (λ (t : Option (List ℕ)). append_known t (as_line (summary_data left.history))) lines
-      ∙ more-again left.text.0 (ended (replay_lines task.case steps left.history)) (as_line (summary_data left.history))))
+      ∙ more-again left.text.0 (ended (replay_lines task.routes task.case steps left.history)) (as_line (summary_data left.history))))
 
   in_part : AppendsPrefix (as_line (summary_data left.history)) mid left.text.1 → IsPart task left
   unfolding all_text
@@ -138,7 +138,7 @@ module _ (task : Task) (left : Left) (steps : List Step) (mid : Option (List ℕ
 pub stopped_live : (task : Task) (left : Left) (fault : LiveFault) → task.wanted ≡ EachAtOnce → IsRun task left
     → IsLiveBehind fault task.case.topology left.history left.text.0 left.text.1
     → ((why : NodeFault) → fault ≡ lives.Run why → why ≡ faults.HistoryFull → length left.history ≡ history_limit)
-    → (fault ≡ lives.Run faults.HistoryFull → IfSome left.rows.1 (λ _. IsShortOf task.case task.before left.history))
+    → (fault ≡ lives.Run faults.HistoryFull → IfSome left.rows.1 (λ _. IsShortOf task.routes task.case task.before left.history))
     → ((why : NodeFault) (name : RowName) (bytes : List ℕ) → fault ≡ lives.Run why → why ≡ faults.RowDamaged name bytes
     → (count : ℕ) × IsReadAfter task.before count left.history × IsDamagedRow task.case left.rows.1 count name bytes)
     → RunLeaves task left (of_live fault)

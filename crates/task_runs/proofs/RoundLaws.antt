@@ -6,6 +6,7 @@ use Rattle.mw_types.specs.Causes.{Rose}
 use Rattle.mw_types.specs.declared.entry.Entry.{Entry}
 use Rattle.mw_types.specs.declared.identity.RowName.{RowName}
 use Rattle.topology.specs.Rules.{IsTopology, interval_count}
+use Rattle.topology.specs.Folding.{RoutesView}
 use Rattle.row_keeper.specs.Rows.{Rows}
 use Rattle.run_history.specs.Cases.{CaseShape}
 use Rattle.run_history.specs.Fences.{Begins}
@@ -92,10 +93,10 @@ pub begins_through : (one two three : List Entry) → Begins one two → Begins 
 begins_through one two three a b = (a.0 ++ b.0, sym (append_assoc one a.0 b.0) ∙ ap (λ l. l ++ b.0) a.1 ∙ b.1)
 
 -- what rounds have left that a fault ended goes as rounds do
-pub rounds_stopped : (case : CaseShape) (before : Before) (told : Option Rows) (fault : Option NodeFault) (history : List Entry)
-    → IsDraining case (length history) history → AreRoundsOf case before told fault history → GoesAs case before history
-rounds_stopped case (Steps steps) told fault history draining is = absurd is
-rounds_stopped case (Rounds workers rounds actions) told fault history draining is = record {
+pub rounds_stopped : (routes : RoutesView) (case : CaseShape) (before : Before) (told : Option Rows) (fault : Option NodeFault) (history : List Entry)
+    → IsDraining case (length history) history → AreRoundsOf case before told fault history → GoesAs routes case before history
+rounds_stopped routes case (Steps steps) told fault history draining is = absurd is
+rounds_stopped routes case (Rounds workers rounds actions) told fault history draining is = record {
   front = history;
   room = is.room;
   goes_on = record { begins = ([], append-nil history); draining = draining };
@@ -103,11 +104,11 @@ rounds_stopped case (Rounds workers rounds actions) told fault history draining 
 }
 
 -- so does what goes on from them as a drain does
-pub rounds_behind : (case : CaseShape) (before : Before) (told : Option Rows) (front history : List Entry)
+pub rounds_behind : (routes : RoutesView) (case : CaseShape) (before : Before) (told : Option Rows) (front history : List Entry)
     → Begins front history → IsDraining case (length front) history → AreRoundsOf case before told None front
-    → GoesAs case before history
-rounds_behind case (Steps steps) told front history begins draining is = absurd is
-rounds_behind case (Rounds workers rounds actions) told front history begins draining is = record {
+    → GoesAs routes case before history
+rounds_behind routes case (Steps steps) told front history begins draining is = absurd is
+rounds_behind routes case (Rounds workers rounds actions) told front history begins draining is = record {
   front = front;
   room = is.room;
   goes_on = record { begins = begins; draining = draining };
@@ -115,13 +116,13 @@ rounds_behind case (Rounds workers rounds actions) told front history begins dra
 }
 
 -- where the drain came to its end it is the whole
-pub rounds_whole : (case : CaseShape) (before : Before) (told : Option Rows) (front history : List Entry)
+pub rounds_whole : (routes : RoutesView) (case : CaseShape) (before : Before) (told : Option Rows) (front history : List Entry)
     → Begins front history → IfSome told (λ _. IsDraining case (length front) history)
     → IfSome told (λ _. HasEnded case (length front) history)
-    → AreRoundsOf case before told None front → IfSome told (λ _. IsAllOf case before history)
-rounds_whole case before None front history begins draining ended is = tt
-rounds_whole case (Steps steps) (Some rows) front history begins draining ended is = absurd is
-rounds_whole case (Rounds workers rounds actions) (Some rows) front history begins draining ended is = record {
+    → AreRoundsOf case before told None front → IfSome told (λ _. IsAllOf routes case before history)
+rounds_whole routes case before None front history begins draining ended is = tt
+rounds_whole routes case (Steps steps) (Some rows) front history begins draining ended is = absurd is
+rounds_whole routes case (Rounds workers rounds actions) (Some rows) front history begins draining ended is = record {
   front = front;
   room = is.room;
   begins = begins;
@@ -147,13 +148,13 @@ short_rounds case workers rounds actions front history room goes more mine law =
 }
 
 -- so it is of what rounds left that a fault ended, since a drain has intervals to claim
-pub rounds_full : (case : CaseShape) (before : Before) (told : Option Rows) (fault : Option NodeFault) (history : List Entry)
+pub rounds_full : (routes : RoutesView) (case : CaseShape) (before : Before) (told : Option Rows) (fault : Option NodeFault) (history : List Entry)
     → IsTopology case.topology → IsDraining case (length history) history → IsLegalAndFenced case history
     → ((c : CaseShape) (f one all : List Entry) → IsDraining c (length f) (f ++ one) → IsLegalAndFenced c (f ++ one)
     → IsDrained c (length f) (f ++ all) → IsLegalAndFenced c (f ++ all) → Begins (f ++ one) (f ++ all))
-    → AreRoundsOf case before told fault history → IsShortOf case before history
-rounds_full case (Steps steps) told fault history rules draining mine law is = absurd is
-rounds_full case (Rounds workers rounds actions) told fault history rules draining mine law is =
+    → AreRoundsOf case before told fault history → IsShortOf routes case before history
+rounds_full routes case (Steps steps) told fault history rules draining mine law is = absurd is
+rounds_full routes case (Rounds workers rounds actions) told fault history rules draining mine law is =
     short_rounds case workers rounds (length actions) history history is.room
     (record { begins = ([], append-nil history); draining = draining })
     (λ ended. let claimed : length history + interval_count case.topology ≤ length history =
@@ -161,14 +162,14 @@ rounds_full case (Rounds workers rounds actions) told fault history rules draini
     omega (arith, claimed, rules.some_injector)) mine law
 
 -- and of what goes on from rounds
-pub rounds_short : (case : CaseShape) (before : Before) (told : Option Rows) (front history : List Entry)
+pub rounds_short : (routes : RoutesView) (case : CaseShape) (before : Before) (told : Option Rows) (front history : List Entry)
     → Begins front history → IsDraining case (length front) history → (HasEnded case (length front) history → ⊥)
     → IsLegalAndFenced case history
     → ((c : CaseShape) (f one all : List Entry) → IsDraining c (length f) (f ++ one) → IsLegalAndFenced c (f ++ one)
     → IsDrained c (length f) (f ++ all) → IsLegalAndFenced c (f ++ all) → Begins (f ++ one) (f ++ all))
-    → AreRoundsOf case before told None front → IsShortOf case before history
-rounds_short case (Steps steps) told front history begins draining more mine law is = absurd is
-rounds_short case (Rounds workers rounds actions) told front history begins draining more mine law is =
+    → AreRoundsOf case before told None front → IsShortOf routes case before history
+rounds_short routes case (Steps steps) told front history begins draining more mine law is = absurd is
+rounds_short routes case (Rounds workers rounds actions) told front history begins draining more mine law is =
     short_rounds case workers rounds (length actions) front history is.room (record { begins = begins; draining = draining })
     more mine law
 
@@ -178,11 +179,11 @@ rounds_short case (Rounds workers rounds actions) told front history begins drai
 pub drained_goes : (task : Task) (old new : BookView) → old.case ≡ task.case → is_some new.rows ≡ is_some old.rows
     → Begins old.history new.history → IfSome old.rows (λ _. IsDraining old.case (length old.history) new.history)
     → AreRoundsOf task.case task.before old.rows None old.history
-    → IfSome new.rows (λ _. GoesAs task.case task.before new.history)
+    → IfSome new.rows (λ _. GoesAs task.routes task.case task.before new.history)
 drained_goes task old new same tells begins draining are =
-    seen_on (GoesAs task.case task.before new.history) old.rows new.rows tells
+    seen_on (GoesAs task.routes task.case task.before new.history) old.rows new.rows tells
     (on_told old.rows (λ (d : IsDraining old.case (length old.history) new.history).
-    rounds_behind task.case task.before old.rows old.history new.history begins
+    rounds_behind task.routes task.case task.before old.rows old.history new.history begins
     (subst (λ c. IsDraining c (length old.history) new.history) same d) are) draining)
 
 -- a book that was drained to the end is whole
@@ -190,9 +191,9 @@ pub drained_whole : (task : Task) (old new : BookView) → old.case ≡ task.cas
     → Begins old.history new.history → IfSome old.rows (λ _. IsDraining old.case (length old.history) new.history)
     → IfSome old.rows (λ _. HasEnded old.case (length old.history) new.history)
     → AreRoundsOf task.case task.before old.rows None old.history
-    → IfSome old.rows (λ _. IsAllOf task.case task.before new.history)
+    → IfSome old.rows (λ _. IsAllOf task.routes task.case task.before new.history)
 drained_whole task old new same begins draining ended are =
-    rounds_whole task.case task.before old.rows old.history new.history begins
+    rounds_whole task.routes task.case task.before old.rows old.history new.history begins
     (on_told old.rows (λ (d : IsDraining old.case (length old.history) new.history).
     subst (λ c. IsDraining c (length old.history) new.history) same d) draining)
     (on_told old.rows (λ (e : HasEnded old.case (length old.history) new.history).
@@ -211,7 +212,7 @@ pub drained_short : (task : Task) (old new : BookView) → old.case ≡ task.cas
     → IsDrained c (length f) (f ++ all) → IsLegalAndFenced c (f ++ all) → Begins (f ++ one) (f ++ all))
     → AreRoundsOf task.case task.before old.rows None old.history
     → IfSome old.rows (λ _. HasEnded old.case (length old.history) new.history → ⊥)
-    → IfSome new.rows (λ _. IsShortOf task.case task.before new.history)
+    → IfSome new.rows (λ _. IsShortOf task.routes task.case task.before new.history)
 drained_short task old new mine same after tells begins draining law are more =
     let lawful : IsLawful task.case (core_of new) = subst (λ c. IsLawful c (core_of new)) (same ∙ mine) after in
     by_rows old.rows new.rows tells draining more lawful.held
@@ -220,11 +221,11 @@ drained_short task old new mine same after tells begins draining law are more =
         → IfSome had (λ _. IsDraining old.case (length old.history) new.history)
         → IfSome had (λ _. HasEnded old.case (length old.history) new.history → ⊥)
         → IfSome has (HoldsRowsOf task.case new.history)
-        → IfSome has (λ _. IsShortOf task.case task.before new.history)
+        → IfSome has (λ _. IsShortOf task.routes task.case task.before new.history)
     by_rows had None told d m held = tt
     by_rows None (Some rows) told d m held = absurd (true≢false told)
     by_rows (Some before) (Some rows) told d m held =
-        rounds_short task.case task.before old.rows old.history new.history begins
+        rounds_short task.routes task.case task.before old.rows old.history new.history begins
         (subst (λ c. IsDraining c (length old.history) new.history) mine d)
         (λ e. m (subst (λ c. HasEnded c (length old.history) new.history) (sym mine) e))
         (lawful_fenced task new rows (subst (λ c. IsLawful c (core_of new)) (same ∙ mine) after) held) law are
@@ -235,11 +236,11 @@ pub stopped_short : (task : Task) (book : BookView) (fault : Option NodeFault) �
     → ((c : CaseShape) (f one all : List Entry) → IsDraining c (length f) (f ++ one) → IsLegalAndFenced c (f ++ one)
     → IsDrained c (length f) (f ++ all) → IsLegalAndFenced c (f ++ all) → Begins (f ++ one) (f ++ all))
     → AreRoundsOf task.case task.before book.rows fault book.history
-    → IfSome book.rows (λ _. IsShortOf task.case task.before book.history)
+    → IfSome book.rows (λ _. IsShortOf task.routes task.case task.before book.history)
 stopped_short task book fault mine after rules draining law are =
     let lawful : IsLawful task.case (core_of book) = subst (λ c. IsLawful c (core_of book)) mine after in
     seen_again book.rows book.rows refl
-    (λ rows a held. rounds_full task.case task.before book.rows fault book.history rules draining
+    (λ rows a held. rounds_full task.routes task.case task.before book.rows fault book.history rules draining
     (lawful_fenced task book rows lawful held) law a) (told_always book.rows are) lawful.held
 
 -- what is left of a run is left as well where the rows and the history are said in other words

@@ -26,6 +26,7 @@ use Rattle.world.specs.scripts.Acts.{scripted_history}
 use Rattle.history_laws.specs.Writes.{IsLegalAndFenced}
 use Rattle.run_history.specs.Fences.{Begins}
 use Rattle.topology.specs.Rules.{IsTopology, interval_count}
+use Rattle.topology.specs.Folding.{RoutesView}
 use Rattle.task_runs.specs.declared.task.Task.{Task}
 use Rattle.task_runs.specs.declared.task.Before.{Before}
 use Rattle.task_runs.specs.declared.task.Before.TheVariants.{Steps, Rounds}
@@ -51,6 +52,10 @@ same_where_empty one other before after (Some rows) None tells begun ended held 
 same_where_empty one other before after (Some old) (Some new) tells begun ended held kept =
     ap Some (none_stored other after new ended kept ∙ sym (none_stored one before old begun held))
 
+-- what is so over the routes and the case of a world is so over those of its task
+pub over_task : {r s : RoutesView} {k c : CaseShape} (P : RoutesView → CaseShape → Type 0) → r ≡ s → k ≡ c → P r k → P s c
+over_task P routes case is = subst (P _) case (subst (λ (w : RoutesView). P w _) routes is)
+
 -- what is so where rows were seen is so where they are seen, as is what holds of them
 pub seen_again : {A : Type 0} {P Q : Rows → Type 0} (old new : Option Rows) → is_some new ≡ is_some old
     → ((rows : Rows) → A → P rows → Q rows) → IfSome old (λ _. A) → IfSome new P → IfSome new Q
@@ -59,7 +64,7 @@ seen_again None (Some rows) tells f a p = absurd (true≢false tells)
 seen_again (Some held) (Some rows) tells f a p = f rows a p
 
 -- rows that a book has are those of a run
-kept_run : (task : Task) (history : List Entry) (rows : Rows) → GoesAs task.case task.before history
+kept_run : (task : Task) (history : List Entry) (rows : Rows) → GoesAs task.routes task.case task.before history
     → HoldsRowsOf task.case history rows → IsKeptRun task history rows
 kept_run task history rows goes held = record { legal = held.legal; goes = goes; stored = held.stored }
 
@@ -72,7 +77,7 @@ seen_on A (Some held) (Some rows) tells is = is
 -- a book that goes as its task does has a run, where the keeper had no rows before
 pub run_of_history : (task : Task) (began : Option Rows) (new : BookView) (text : Option (List ℕ) × Option (List ℕ))
     → IfSome began (λ rows. rows ≡ []) → new.case ≡ task.case → IsLawful new.case (core_of new)
-    → IfSome new.rows (λ _. GoesAs task.case task.before new.history)
+    → IfSome new.rows (λ _. GoesAs task.routes task.case task.before new.history)
     → IsRun task (record { rows = (began, new.rows); text = text; history = new.history })
 run_of_history task began new text empty same after goes =
     let lawful : IsLawful task.case (core_of new) = subst (λ c. IsLawful c (core_of new)) same after in
@@ -85,27 +90,27 @@ run_of_history task began new text empty same after goes =
 -- a book that began with nothing and went on as the steps and a drain do has a run
 pub run_of_book : (task : Task) (old new : BookView) (text : Option (List ℕ) × Option (List ℕ))
     → old.case ≡ task.case → new.case ≡ old.case → IsLawful old.case (core_of old) → IsLawful new.case (core_of new) → old.history ≡ []
-    → is_some new.rows ≡ is_some old.rows → IfSome old.rows (λ _. GoesAs task.case task.before new.history)
+    → is_some new.rows ≡ is_some old.rows → IfSome old.rows (λ _. GoesAs task.routes task.case task.before new.history)
     → IsRun task (record { rows = (old.rows, new.rows); text = text; history = new.history })
 run_of_book task old new text mine same before after empty tells goes =
     run_of_history task old.rows new text (none_kept old.case old.history old.rows empty before.held) (same ∙ mine) after
-    (seen_on (GoesAs task.case task.before new.history) old.rows new.rows tells goes)
+    (seen_on (GoesAs task.routes task.case task.before new.history) old.rows new.rows tells goes)
 
 -- a whole history has come to the end of its drain
-whole_injected : (case : CaseShape) (before : Before) (history : List Entry) → IsAllOf case before history
+whole_injected : (routes : RoutesView) (case : CaseShape) (before : Before) (history : List Entry) → IsAllOf routes case before history
     → (from : ℕ) × HasInjected case from history
-whole_injected case (Steps steps) history whole = (length (scripted_history case steps), whole.drained.ended.earlier)
-whole_injected case (Rounds workers rounds actions) history whole = (length whole.front, whole.drained.ended.earlier)
+whole_injected routes case (Steps steps) history whole = (length (scripted_history routes case steps), whole.drained.ended.earlier)
+whole_injected routes case (Rounds workers rounds actions) history whole = (length whole.front, whole.drained.ended.earlier)
 
 -- a run that went to the drain's end is a whole one
 pub whole_run : (task : Task) (old : Option Rows) (left : Left) → IsRun task left → IsRunnable task.case
     → ((c : CaseShape) (n : ℕ) (h : List Entry) → IsRunnable c → IsLegal c h → HasInjected c n h → IsFinished c (run_of c.topology h))
-    → is_some left.rows.1 ≡ is_some old → IfSome old (λ _. IsAllOf task.case task.before left.history) → IsWholeRun task left
+    → is_some left.rows.1 ≡ is_some old → IfSome old (λ _. IsAllOf task.routes task.case task.before left.history) → IsWholeRun task left
 whole_run task old left run runnable law tells whole = record {
   run = run;
   whole = seen_again old left.rows.1 tells (λ rows w k. w) whole run.kept;
   finished = seen_again old left.rows.1 tells
-      (λ rows w k. let at = whole_injected task.case task.before left.history w in
+      (λ rows w k. let at = whole_injected task.routes task.case task.before left.history w in
       law task.case at.0 left.history runnable k.legal at.1) whole run.kept;
 }
 
@@ -131,19 +136,19 @@ shorter case front history whole law goes mine begins drained other apart =
     by_rest (e ∷ es) is = omega (arith, ap length is, length-append history (e ∷ es))
 
 -- a replay that is not the whole has more to come
-pub short_of : (case : CaseShape) (steps : List Step) (history : List Entry) → IsTopology case.topology
+pub short_of : (routes : RoutesView) (case : CaseShape) (steps : List Step) (history : List Entry) → IsTopology case.topology
     → ((c : CaseShape) (f one all : List Entry) → IsDraining c (length f) (f ++ one) → IsLegalAndFenced c (f ++ one)
     → IsDrained c (length f) (f ++ all) → IsLegalAndFenced c (f ++ all) → Begins (f ++ one) (f ++ all))
-    → IsReplayed case steps history → IsLegalAndFenced case history
-    → (IsWholeReplay case steps history → ⊥) → IsShortOfReplay case steps history
-short_of case steps history rules law replayed mine more = record {
+    → IsReplayed routes case steps history → IsLegalAndFenced case history
+    → (IsWholeReplay routes case steps history → ⊥) → IsShortOfReplay routes case steps history
+short_of routes case steps history rules law replayed mine more = record {
   more = more;
   longer = λ whole is other. elim replayed [
-    | inl begins ↦ let claimed : length (scripted_history case steps) + interval_count case.topology ≤ length whole =
+    | inl begins ↦ let claimed : length (scripted_history routes case steps) + interval_count case.topology ≤ length whole =
         is.drained.ended.earlier.earlier.earlier.claimed in
         omega (arith, ap length begins.1, length-append history begins.0, claimed, rules.some_injector)
-    | inr goes ↦ shorter case (scripted_history case steps) history whole law goes mine is.begins is.drained other
-        (λ same. more (subst (IsWholeReplay case steps) same is))
+    | inr goes ↦ shorter case (scripted_history routes case steps) history whole law goes mine is.begins is.drained other
+        (λ same. more (subst (IsWholeReplay routes case steps) same is))
   ];
 }
 
@@ -152,16 +157,17 @@ pub run_short : (task : Task) (left : Left) (steps : List Step) → task.before 
     → IsTopology task.case.topology
     → ((c : CaseShape) (f one all : List Entry) → IsDraining c (length f) (f ++ one) → IsLegalAndFenced c (f ++ one)
     → IsDrained c (length f) (f ++ all) → IsLegalAndFenced c (f ++ all) → Begins (f ++ one) (f ++ all))
-    → IfSome left.rows.1 (λ _. IsWholeReplay task.case steps left.history → ⊥)
-    → IfSome left.rows.1 (λ _. IsShortOf task.case task.before left.history)
+    → IfSome left.rows.1 (λ _. IsWholeReplay task.routes task.case steps left.history → ⊥)
+    → IfSome left.rows.1 (λ _. IsShortOf task.routes task.case task.before left.history)
 run_short task left steps same run rules law more = by_rows left.rows.1 run.kept more
   where
     by_rows : (rows : Option Rows) → IfSome rows (IsKeptRun task left.history)
-        → IfSome rows (λ _. IsWholeReplay task.case steps left.history → ⊥)
-        → IfSome rows (λ _. IsShortOf task.case task.before left.history)
+        → IfSome rows (λ _. IsWholeReplay task.routes task.case steps left.history → ⊥)
+        → IfSome rows (λ _. IsShortOf task.routes task.case task.before left.history)
     by_rows None kept unended = tt
-    by_rows (Some rows) kept unended = subst (λ (b : Before). IsShortOf task.case b left.history) (sym same)
-        (short_of task.case steps left.history rules law (subst (λ (b : Before). GoesAs task.case b left.history) same kept.goes)
+    by_rows (Some rows) kept unended = subst (λ (b : Before). IsShortOf task.routes task.case b left.history) (sym same)
+        (short_of task.routes task.case steps left.history rules law
+        (subst (λ (b : Before). GoesAs task.routes task.case b left.history) same kept.goes)
         (record { legal = kept.legal; fenced = run.fenced }) unended)
 
 -- what a desk does not tell a contract does not see

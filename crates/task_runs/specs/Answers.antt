@@ -5,6 +5,7 @@ use Rattle.mw_types.specs.declared.identity.RowName.{RowName}
 use Rattle.mw_types.specs.declared.entry.Entry.{Entry}
 use Rattle.mw_ports.specs.Sinks.{AppendsPrefix}
 use Rattle.topology.specs.Shapes.{Shape}
+use Rattle.topology.specs.Folding.{RoutesView}
 use Rattle.row_keeper.specs.Rows.{Rows}
 use Rattle.run_history.specs.Cases.{CaseShape}
 use Rattle.run_history.specs.Runs.{run_of}
@@ -47,7 +48,7 @@ pub record IsUnbegun (left : Left) : Type 0 where
 -- before its drain does, and as a drain does behind that
 pub record IsKeptRun (task : Task) (history : List Entry) (rows : Rows) : Type 0 where
   pub legal : IsLegal task.case history
-  pub goes : GoesAs task.case task.before history
+  pub goes : GoesAs task.routes task.case task.before history
   pub stored : rows ≡ stored_rows (run_of task.case.topology history)
 
 -- a run of the task, as far as it came: it was begun over a keeper without rows
@@ -60,7 +61,7 @@ pub record IsRun (task : Task) (left : Left) : Type 0 where
 -- no work is left
 pub record IsWholeRun (task : Task) (left : Left) : Type 0 where
   pub run : IsRun task left
-  pub whole : IfSome left.rows.1 (λ _. IsAllOf task.case task.before left.history)
+  pub whole : IfSome left.rows.1 (λ _. IsAllOf task.routes task.case task.before left.history)
   pub finished : IfSome left.rows.1 (λ _. IsFinished task.case (run_of task.case.topology left.history))
 
 -- ---- the text
@@ -87,10 +88,11 @@ IsInOrder _ _ shape history text = ⊤
 
 -- where each result was written at once behind the steps of a script, just the text of that replay was written;
 -- of other texts this says nothing
-abbrev pub IsLiveReplay : Wanted → Before → CaseShape → List Entry → Option (List ℕ) × Option (List ℕ) → Type 0
-IsLiveReplay EachAtOnce (Steps steps) case history text =
-    text.1 ≡ append_known text.0 (replay_text case steps history)
-IsLiveReplay _ _ case history text = ⊤
+abbrev pub IsLiveReplay : Wanted → Before → RoutesView → CaseShape → List Entry
+    → Option (List ℕ) × Option (List ℕ) → Type 0
+IsLiveReplay EachAtOnce (Steps steps) routes case history text =
+    text.1 ≡ append_known text.0 (replay_text routes case steps history)
+IsLiveReplay _ _ routes case history text = ⊤
 
 -- the text of a history's lines, and then the plain text of the case
 pub record IsLongPlain (case : CaseShape) (history : List Entry) (text : List ℕ) : Type 0 where
@@ -123,7 +125,8 @@ pub record IsWhole (task : Task) (left : Left) : Type 0 where
   -- nothing of the history but its lines is in it: its result is the plain count
   pub plain : IfSome left.rows.1 (λ _. IsPlainWhole task.wanted task.case left.history text)
   -- which results were written again, and when, is decided by the steps
-  pub replayed : IfSome left.rows.1 (λ _. IsLiveReplay task.wanted task.before task.case left.history left.text)
+  pub replayed : IfSome left.rows.1
+      (λ _. IsLiveReplay task.wanted task.before task.routes task.case left.history left.text)
 
 -- the run came to its end, and a beginning of its text was written
 pub record IsPart (task : Task) (left : Left) : Type 0 where
@@ -153,7 +156,7 @@ IsPartOf task left = IsPart task left ⊎ IsCutOff task left
 pub record IsFull (task : Task) (left : Left) : Type 0 where
   pub stopped : IsStopped task left
   pub full : length left.history ≡ history_limit
-  pub more : IfSome left.rows.1 (λ _. IsShortOf task.case task.before left.history)
+  pub more : IfSome left.rows.1 (λ _. IsShortOf task.routes task.case task.before left.history)
 
 -- the run stopped at bytes that the keeper gave, which are those of no row that fits the name; of a keeper
 -- whose rows a contract can see none are

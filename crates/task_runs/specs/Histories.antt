@@ -2,6 +2,7 @@
 -- and behind it the drain. Own.
 use Rattle.std.specs.Prelude.{◌≡◌, ◌<◌, ◌≤◌, ◌⊎◌, ℕ, List, length}
 use Rattle.mw_types.specs.declared.entry.Entry.{Entry}
+use Rattle.topology.specs.Folding.{RoutesView}
 use Rattle.run_history.specs.Cases.{CaseShape}
 use Rattle.run_history.specs.Fences.{Begins}
 use Rattle.history_laws.specs.Writes.{IsLegalAndFenced}
@@ -58,28 +59,30 @@ pub record IsShortOfRounds (case : CaseShape) (workers rounds actions : ℕ)
 
 -- a history has more to come than it has: it is not the whole that the steps write, with the drain behind
 -- them, and each legal and fenced one that is has more entries
-pub record IsShortOfReplay (case : CaseShape) (steps : List Step) (history : List Entry) : Type 0 where
-  pub more : IsWholeReplay case steps history → ⊥
-  pub longer : (whole : List Entry) → IsWholeReplay case steps whole →
+pub record IsShortOfReplay (routes : RoutesView) (case : CaseShape) (steps : List Step)
+    (history : List Entry) : Type 0 where
+  pub more : IsWholeReplay routes case steps history → ⊥
+  pub longer : (whole : List Entry) → IsWholeReplay routes case steps whole →
       IsLegalAndFenced case whole → length history < length whole
 
 -- ---- either of them
 
 -- a history goes as what comes before the drain does, and as a drain does behind it, as far as it came
-abbrev pub GoesAs : CaseShape → Before → List Entry → Type 0
-GoesAs case (Steps steps) history = IsReplayed case steps history
-GoesAs case (Rounds workers rounds actions) history = IsRounded case workers rounds (length actions) history
+abbrev pub GoesAs : RoutesView → CaseShape → Before → List Entry → Type 0
+GoesAs routes case (Steps steps) history = IsReplayed routes case steps history
+GoesAs routes case (Rounds workers rounds actions) history =
+    IsRounded case workers rounds (length actions) history
 
 -- a history is the whole of what comes before the drain, and of the drain behind it
-abbrev pub IsAllOf : CaseShape → Before → List Entry → Type 0
-IsAllOf case (Steps steps) history = IsWholeReplay case steps history
-IsAllOf case (Rounds workers rounds actions) history =
+abbrev pub IsAllOf : RoutesView → CaseShape → Before → List Entry → Type 0
+IsAllOf routes case (Steps steps) history = IsWholeReplay routes case steps history
+IsAllOf routes case (Rounds workers rounds actions) history =
     IsWholeRounded case workers rounds (length actions) history
 
 -- a history that goes so has more to come
-abbrev pub IsShortOf : CaseShape → Before → List Entry → Type 0
-IsShortOf case (Steps steps) history = IsShortOfReplay case steps history
-IsShortOf case (Rounds workers rounds actions) history =
+abbrev pub IsShortOf : RoutesView → CaseShape → Before → List Entry → Type 0
+IsShortOf routes case (Steps steps) history = IsShortOfReplay routes case steps history
+IsShortOf routes case (Rounds workers rounds actions) history =
     IsShortOfRounds case workers rounds (length actions) history
 
 -- a row was read when the history had so many entries: all that it has, and in rounds, where other workers

@@ -6,6 +6,7 @@ use Rattle.mw_types.specs.declared.delivery.Emission.{Emission}
 use Rattle.mw_types.specs.declared.entry.Entry.{Entry}
 use Rattle.mw_ports.specs.Sinks.{AppendsPrefix}
 use Rattle.topology.specs.Shapes.{Shape}
+use Rattle.topology.specs.Folding.{RoutesView}
 use Rattle.run_history.specs.Cases.{CaseShape}
 use Rattle.run_history.specs.Fences.{Begins}
 use Rattle.run_history.specs.Runs.{run_of}
@@ -90,13 +91,15 @@ script_lines case world place (step ∷ steps) =
     written_before first.0 (script_lines case next first.1 steps)
 
 -- the lines of a replay: those that its steps write in a new world, and those of the drain behind them
-abbrev pub replay_lines : CaseShape → List Step → List Entry → List (List ℕ)
-replay_lines case steps history = let first = script_lines case (empty_world case.topology) 0 steps in
+abbrev pub replay_lines : RoutesView → CaseShape → List Step → List Entry → List (List ℕ)
+replay_lines routes case steps history =
+    let first = script_lines case (empty_world routes case.topology) 0 steps in
     first.0 ++ (pumped_from case.topology history first.1).0
 
 -- the whole text of a replay whose results are written at once: its lines, and then the summary line
-abbrev pub replay_text : CaseShape → List Step → List Entry → List ℕ
-replay_text case steps history = ended (replay_lines case steps history) ++ as_line (summary_data history)
+abbrev pub replay_text : RoutesView → CaseShape → List Step → List Entry → List ℕ
+replay_text routes case steps history =
+    ended (replay_lines routes case steps history) ++ as_line (summary_data history)
 
 -- ---- what no public clause cites
 
@@ -169,5 +172,7 @@ pub record IsWritingOn (case : CaseShape) (start : World) (from : ℕ) (all : Li
       ≡ written_before lines (script_lines case world outlet.place left)
 
 -- just the lines of a replay were written
-abbrev pub WritesReplay : CaseShape → List Step → List Entry → Option (List ℕ) → Option (List ℕ) → Type 0
-WritesReplay case steps history text grown = grown ≡ append_known text (ended (replay_lines case steps history))
+abbrev pub WritesReplay : RoutesView → CaseShape → List Step → List Entry → Option (List ℕ)
+    → Option (List ℕ) → Type 0
+WritesReplay routes case steps history text grown =
+    grown ≡ append_known text (ended (replay_lines routes case steps history))

@@ -20,6 +20,7 @@ topology_rule topologies.DoubleStream = codes "DoubleStream"
 topology_rule topologies.UnknownStream = codes "UnknownStream"
 topology_rule topologies.BadNumber = codes "BadNumber"
 topology_rule topologies.BadCuts = codes "BadCuts"
+topology_rule topologies.BadWeak = codes "BadWeak"
 topology_rule topologies.NoMemory = codes "NoMemory"
 
 -- the name of a rule of event lines

@@ -1,5 +1,5 @@
 -- What a task names before its drain, and what is to be written of it. Own.
-use Rattle.std.specs.Prelude.{Bool, true, false, if◌then◌else◌, All}
+use Rattle.std.specs.Prelude.{ℕ, Bool, true, false, if◌then◌else◌, All}
 use Rattle.command_line.specs.Grammar.{AreSizes}
 use Rattle.topology.specs.Shapes.{Shape}
 use Rattle.plans.specs.Steps.{IsStep}
@@ -9,11 +9,11 @@ use Rattle.task_runs.specs.declared.task.Before.TheVariants.{Steps, Rounds}
 use Rattle.task_runs.specs.declared.task.Wanted.{Wanted}
 use Rattle.task_runs.specs.declared.task.Wanted.TheVariants as wanted
 
--- what comes before the drain names parts, intervals and workers that are there, and its numbers are within
--- their limits
-abbrev pub AreThere : Shape → Before → Type 0
-AreThere shape (Steps steps) = All (IsStep shape) steps
-AreThere shape (Rounds workers rounds actions) =
+-- what comes before the drain names parts, intervals, workers and relays that are there, of which relays there
+-- are so many, and its numbers are within their limits
+abbrev pub AreThere : Shape → ℕ → Before → Type 0
+AreThere shape weaks (Steps steps) = All (IsStep shape weaks) steps
+AreThere shape weaks (Rounds workers rounds actions) =
     AreSizes workers rounds × All (IsAction shape workers rounds) actions
 
 -- whether it is rounds of workers

@@ -85,9 +85,10 @@ pub(crate) fn finish_live<'a, K: Keeper, C: Computation + Drop, O: Sink>(
 ) -> Status
     requires live { is_at_once task.now.wanted ≡ true }
     requires case { world.old.book.case ≡ task.now.case }
+    requires routes { world.old.routes ≡ task.now.routes }
     requires before { task.now.before ≡ Before.Steps steps.now }
-    requires steps { All (IsStep task.now.case.topology) steps.now }
-    requires begun { world_of world.old ≡ empty_world task.now.case.topology }
+    requires steps { All (IsStep task.now.case.topology task.now.routes.weaks) steps.now }
+    requires begun { world_of world.old ≡ empty_world task.now.routes task.now.case.topology }
     requires limit { world.old.book.limit ≡ history_limit }
 
     ensures keeper_later { world.old.book.faults ≤ world.new.book.faults }
@@ -121,8 +122,9 @@ fn run_live<'a, K: Keeper, C: Computation + Drop, O: Sink>(
     steps: &[Step],
     out: &mut O,
 ) -> Result<(), LiveFault>
-    requires steps { All (IsStep world.old.book.case.topology) steps.now }
-    requires begun { world_of world.old ≡ empty_world world.old.book.case.topology }
+    requires steps { All (IsStep world.old.book.case.topology world.old.routes.weaks) steps.now }
+    requires begun { world_of world.old
+        ≡ empty_world world.old.routes world.old.book.case.topology }
 
     ensures case { world.new.book.case ≡ world.old.book.case }
     ensures limit { world.new.book.limit ≡ world.old.book.limit }
@@ -130,11 +132,14 @@ fn run_live<'a, K: Keeper, C: Computation + Drop, O: Sink>(
     ensures keeper_later { world.old.book.faults ≤ world.new.book.faults }
     ensures out_later { O.faults out.old ≤ O.faults out.new }
     ensures replayed { IfSome world.old.book.rows
-        (λ _. IsReplayed world.old.book.case steps.now world.new.book.history) }
+        (λ _. IsReplayed world.old.routes world.old.book.case
+        steps.now world.new.book.history) }
     ensures whole { OnOk result (IfSome world.old.book.rows
-        (λ _. IsWholeReplay world.old.book.case steps.now world.new.book.history)) }
+        (λ _. IsWholeReplay world.old.routes world.old.book.case
+        steps.now world.new.book.history)) }
     ensures more { result ≡ Err (LiveFault.Run NodeFault.HistoryFull) → IfSome world.old.book.rows
-        (λ _. IsWholeReplay world.old.book.case steps.now world.new.book.history → ⊥) }
+        (λ _. IsWholeReplay world.old.routes world.old.book.case
+        steps.now world.new.book.history → ⊥) }
     ensures cause { IfErr result (HasLiveCause world.old.book world.new.book
         (O.faults out.old) (O.faults out.new)) }
 
@@ -142,7 +147,8 @@ fn run_live<'a, K: Keeper, C: Computation + Drop, O: Sink>(
     ensures results { OnOk result (HasResults world.old.book.case.topology world.new.book.history
         (length steps.now == 0) (O.text out.old) (O.text out.new)) }
     ensures lines { OnOk result (IfSome world.old.book.rows (λ _. WritesReplay
-        world.old.book.case steps.now world.new.book.history (O.text out.old) (O.text out.new))) }
+        world.old.routes world.old.book.case steps.now world.new.book.history
+        (O.text out.old) (O.text out.new))) }
     ensures behind { IfErr result (λ fault. IsLiveBehind fault world.old.book.case.topology
         world.new.book.history (O.text out.old) (O.text out.new)) }
 {
@@ -160,8 +166,9 @@ fn run_pumped<'a, K: Keeper, C: Computation + Drop, O: Sink>(
     outlet: &mut Outlet,
     out: &mut O,
 ) -> Result<(), LiveFault>
-    requires steps { All (IsStep world.old.book.case.topology) steps.now }
-    requires begun { world_of world.old ≡ empty_world world.old.book.case.topology }
+    requires steps { All (IsStep world.old.book.case.topology world.old.routes.weaks) steps.now }
+    requires begun { world_of world.old
+        ≡ empty_world world.old.routes world.old.book.case.topology }
     requires pumped { IsPumpedTo world.old.book.case.topology world.old.book.history true
         outlet.old (O.text out.old) (O.text out.old) }
 
@@ -171,11 +178,14 @@ fn run_pumped<'a, K: Keeper, C: Computation + Drop, O: Sink>(
     ensures keeper_later { world.old.book.faults ≤ world.new.book.faults }
     ensures out_later { O.faults out.old ≤ O.faults out.new }
     ensures replayed { IfSome world.old.book.rows
-        (λ _. IsReplayed world.old.book.case steps.now world.new.book.history) }
+        (λ _. IsReplayed world.old.routes world.old.book.case
+        steps.now world.new.book.history) }
     ensures whole { OnOk result (IfSome world.old.book.rows
-        (λ _. IsWholeReplay world.old.book.case steps.now world.new.book.history)) }
+        (λ _. IsWholeReplay world.old.routes world.old.book.case
+        steps.now world.new.book.history)) }
     ensures more { result ≡ Err (LiveFault.Run NodeFault.HistoryFull) → IfSome world.old.book.rows
-        (λ _. IsWholeReplay world.old.book.case steps.now world.new.book.history → ⊥) }
+        (λ _. IsWholeReplay world.old.routes world.old.book.case
+        steps.now world.new.book.history → ⊥) }
     ensures cause { IfErr result (HasLiveCause world.old.book world.new.book
         (O.faults out.old) (O.faults out.new)) }
 
@@ -183,7 +193,8 @@ fn run_pumped<'a, K: Keeper, C: Computation + Drop, O: Sink>(
     ensures results { OnOk result (HasResults world.old.book.case.topology world.new.book.history
         (length steps.now == 0) (O.text out.old) (O.text out.new)) }
     ensures lines { OnOk result (IfSome world.old.book.rows (λ _. WritesReplay
-        world.old.book.case steps.now world.new.book.history (O.text out.old) (O.text out.new))) }
+        world.old.routes world.old.book.case steps.now world.new.book.history
+        (O.text out.old) (O.text out.new))) }
     ensures behind { IfErr result (λ fault. IsLiveBehind fault world.old.book.case.topology
         world.new.book.history (O.text out.old) (O.text out.new)) }
 {
@@ -200,11 +211,12 @@ fn script_live<'a, K: Keeper, C: Computation + Drop, O: Sink>(
     outlet: &mut Outlet,
     out: &mut O,
 ) -> Result<(), LiveFault>
-    requires steps { All (IsStep world.old.book.case.topology) steps.now }
+    requires steps { All (IsStep world.old.book.case.topology world.old.routes.weaks) steps.now }
     requires pumped { IsPumpedTo world.old.book.case.topology world.old.book.history true
         outlet.old (O.text out.old) (O.text out.old) }
 
     ensures case { world.new.book.case ≡ world.old.book.case }
+    ensures routes { world.new.routes ≡ world.old.routes }
     ensures limit { world.new.book.limit ≡ world.old.book.limit }
     ensures tells { is_some world.new.book.rows ≡ is_some world.old.book.rows }
     ensures keeper_later { world.old.book.faults ≤ world.new.book.faults }
@@ -241,11 +253,12 @@ fn step_live<'a, K: Keeper, C: Computation + Drop, O: Sink>(
     outlet: &mut Outlet,
     out: &mut O,
 ) -> Result<(), LiveFault>
-    requires step { IsStep world.old.book.case.topology step.now }
+    requires step { IsStep world.old.book.case.topology world.old.routes.weaks step.now }
     requires extends { IsPumpedFrom world.old.book.case.topology
         outlet.old world.old.book.history }
 
     ensures case { world.new.book.case ≡ world.old.book.case }
+    ensures routes { world.new.routes ≡ world.old.routes }
     ensures limit { world.new.book.limit ≡ world.old.book.limit }
     ensures tells { is_some world.new.book.rows ≡ is_some world.old.book.rows }
     ensures keeper_later { world.old.book.faults ≤ world.new.book.faults }

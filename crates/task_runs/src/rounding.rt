@@ -46,7 +46,7 @@ where
     K: Keeper + Send,
     O: Sink,
     G: Gate + Sync,
-    requires there { AreThere task.now.case.topology task.now.before }
+    requires there { AreThere task.now.case.topology task.now.routes.weaks task.now.before }
     requires rounds { is_rounds task.now.before ≡ true }
     requires late { is_at_once task.now.wanted ≡ false }
 
@@ -88,7 +88,7 @@ where
     G: Gate + Sync,
     requires work { IsWorkOf task.now.case.topology (C.has work.now)
         (C.gives_record work.now) (C.gives_timer work.now) }
-    requires there { AreThere task.now.case.topology task.now.before }
+    requires there { AreThere task.now.case.topology task.now.routes.weaks task.now.before }
     requires rounds { is_rounds task.now.before ≡ true }
     requires late { is_at_once task.now.wanted ≡ false }
 
@@ -131,7 +131,7 @@ where
     requires work { IsWorkOf task.now.case.topology (C.has work.now)
         (C.gives_record work.now) (C.gives_timer work.now) }
     requires case { book.case ≡ task.now.case }
-    requires there { AreThere task.now.case.topology task.now.before }
+    requires there { AreThere task.now.case.topology task.now.routes.weaks task.now.before }
     requires rounds { is_rounds task.now.before ≡ true }
     requires empty { book.history ≡ [] }
     requires limit { book.limit ≡ history_limit }
@@ -180,7 +180,7 @@ where
     requires work { IsWorkOf task.now.case.topology (C.has work.now)
         (C.gives_record work.now) (C.gives_timer work.now) }
     requires case { book.case ≡ task.now.case }
-    requires there { AreThere task.now.case.topology task.now.before }
+    requires there { AreThere task.now.case.topology task.now.routes.weaks task.now.before }
     requires rounds { is_rounds task.now.before ≡ true }
     requires empty { book.history ≡ [] }
 

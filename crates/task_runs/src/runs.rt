@@ -12,7 +12,7 @@ ghost use Rattle.node.specs.Works.{IsWorkOf};
 ghost use Rattle.world.specs.scripts.Worlds.{empty_world};
 ghost use Rattle.world.specs.Replays.{IsReplayed, IsWholeReplay};
 ghost use Rattle.plans.specs.Steps.{IsStep};
-ghost use Rattle.world.specs.scripts.WorldStates.{world_of};
+ghost use Rattle.world.specs.scripts.WorldStates.{IsFolding, world_of};
 ghost use Rattle.task_runs.specs.Limits.{history_limit};
 ghost use Rattle.task_runs.specs.Answers.{Left, RunLeaves};
 ghost use Rattle.task_runs.specs.Tasks.{AreThere, is_at_once, is_rounds};
@@ -26,7 +26,7 @@ use crate::text::write;
 use book::{Book, StartRefusal, StartWhy};
 use computations::{Computation, Kinds};
 use mw_ports::Sink;
-use mw_types::NoMemory;
+use mw_types::{Duplicate, NoMemory};
 use node::NodeFault;
 use plain_answer::results_are_the_plain_count;
 use row_keeper::Keeper;
@@ -40,7 +40,8 @@ pub(crate) const HISTORY_MAX: u64 = 1 << 32;
 
 /// Runs a task that has no rounds over a keeper to its end, and writes its text.
 pub fn run<K: Keeper, O: Sink>(alloc: Global, task: &Task, keeper: K, out: &mut O) -> Done<K>
-    requires there { AreThere task.now.case.topology task.now.before }
+    requires folding { IsFolding task.now.case.topology task.now.routes }
+    requires there { AreThere task.now.case.topology task.now.routes.weaks task.now.before }
     requires alone { is_rounds task.now.before ≡ false }
 
     ensures keeper_later { K.faults keeper ≤ K.faults result.keeper }
@@ -71,8 +72,9 @@ fn run_steps<K: Keeper, O: Sink>(
     keeper: K,
     out: &mut O,
 ) -> Done<K>
+    requires folding { IsFolding task.now.case.topology task.now.routes }
     requires before { task.now.before ≡ Before.Steps steps.now }
-    requires steps { All (IsStep task.now.case.topology) steps.now }
+    requires steps { All (IsStep task.now.case.topology task.now.routes.weaks) steps.now }
 
     ensures keeper_later { K.faults keeper ≤ K.faults result.keeper }
     ensures out_later { O.faults out.old ≤ O.faults out.new }
@@ -105,8 +107,9 @@ fn run_work<K: Keeper, C: Computation + Drop, O: Sink>(
 ) -> Done<K>
     requires work { IsWorkOf task.now.case.topology (C.has work)
         (C.gives_record work) (C.gives_timer work) }
+    requires folding { IsFolding task.now.case.topology task.now.routes }
     requires before { task.now.before ≡ Before.Steps steps.now }
-    requires steps { All (IsStep task.now.case.topology) steps.now }
+    requires steps { All (IsStep task.now.case.topology task.now.routes.weaks) steps.now }
 
     ensures keeper_later { K.faults keeper ≤ K.faults result.keeper }
     ensures out_later { O.faults out.old ≤ O.faults out.new }
@@ -150,8 +153,9 @@ fn run_book<'a, K: Keeper, C: Computation + Drop, O: Sink>(
     requires work { IsWorkOf book.case.topology (C.has work)
         (C.gives_record work) (C.gives_timer work) }
     requires case { book.case ≡ task.now.case }
+    requires folding { IsFolding task.now.case.topology task.now.routes }
     requires before { task.now.before ≡ Before.Steps steps.now }
-    requires steps { All (IsStep task.now.case.topology) steps.now }
+    requires steps { All (IsStep task.now.case.topology task.now.routes.weaks) steps.now }
     requires empty { book.history ≡ [] }
     requires marks { let shape = book.case.topology in
         book.marks ≡ replicate (length (intervals_of shape)) 0 }
@@ -171,7 +175,10 @@ fn run_book<'a, K: Keeper, C: Computation + Drop, O: Sink>(
     ensures untouched { result.history ≡ [] → K.rows result.keeper ≡ book.entry.rows }
     ensures tells { is_some (K.rows result.keeper) ≡ is_some book.entry.rows }
 {
-    match World::start(alloc, book, work) {
+    let Ok(routes) = task.routes.copy(alloc) else {
+        return unworlded(WorldRefusal { book, work });
+    };
+    match World::start(alloc, book, work, routes) {
         Ok(world) => run_world(alloc, world, task, steps, out),
         Err(refusal) => unworlded(refusal),
     }
@@ -204,8 +211,9 @@ fn run_world<'a, K: Keeper, C: Computation + Drop, O: Sink>(
 ) -> Done<K>
     requires case { world.book.case ≡ task.now.case }
     requires before { task.now.before ≡ Before.Steps steps.now }
-    requires steps { All (IsStep task.now.case.topology) steps.now }
-    requires begun { world_of world ≡ empty_world task.now.case.topology }
+    requires steps { All (IsStep task.now.case.topology task.now.routes.weaks) steps.now }
+    requires routes { world.routes ≡ task.now.routes }
+    requires begun { world_of world ≡ empty_world task.now.routes task.now.case.topology }
     requires limit { world.book.limit ≡ history_limit }
 
     ensures keeper_later { world.entry.book.faults ≤ K.faults result.keeper }
@@ -241,9 +249,10 @@ fn finish<'a, K: Keeper, C: Computation + Drop, O: Sink>(
     out: &mut O,
 ) -> Status
     requires case { world.old.book.case ≡ task.now.case }
+    requires routes { world.old.routes ≡ task.now.routes }
     requires before { task.now.before ≡ Before.Steps steps.now }
-    requires steps { All (IsStep task.now.case.topology) steps.now }
-    requires begun { world_of world.old ≡ empty_world task.now.case.topology }
+    requires steps { All (IsStep task.now.case.topology task.now.routes.weaks) steps.now }
+    requires begun { world_of world.old ≡ empty_world task.now.routes task.now.case.topology }
     requires limit { world.old.book.limit ≡ history_limit }
 
     ensures keeper_later { world.old.book.faults ≤ world.new.book.faults }
@@ -276,9 +285,10 @@ fn finish_late<'a, K: Keeper, C: Computation + Drop, O: Sink>(
 ) -> Status
     requires late { is_at_once task.now.wanted ≡ false }
     requires case { world.old.book.case ≡ task.now.case }
+    requires routes { world.old.routes ≡ task.now.routes }
     requires before { task.now.before ≡ Before.Steps steps.now }
-    requires steps { All (IsStep task.now.case.topology) steps.now }
-    requires begun { world_of world.old ≡ empty_world task.now.case.topology }
+    requires steps { All (IsStep task.now.case.topology task.now.routes.weaks) steps.now }
+    requires begun { world_of world.old ≡ empty_world task.now.routes task.now.case.topology }
     requires limit { world.old.book.limit ≡ history_limit }
 
     ensures keeper_later { world.old.book.faults ≤ world.new.book.faults }
@@ -313,23 +323,27 @@ fn replay<'a, K: Keeper, C: Computation + Drop>(
     world: &mut World<'a, K, C>,
     steps: &[Step],
 ) -> Result<(), NodeFault>
-    requires steps { All (IsStep world.old.book.case.topology) steps.now }
-    requires begun { world_of world.old ≡ empty_world world.old.book.case.topology }
+    requires steps { All (IsStep world.old.book.case.topology world.old.routes.weaks) steps.now }
+    requires begun { world_of world.old
+        ≡ empty_world world.old.routes world.old.book.case.topology }
 
     ensures case { world.new.book.case ≡ world.old.book.case }
     ensures limit { world.new.book.limit ≡ world.old.book.limit }
     ensures tells { is_some world.new.book.rows ≡ is_some world.old.book.rows }
     ensures keeper_later { world.old.book.faults ≤ world.new.book.faults }
     ensures replayed { IfSome world.old.book.rows
-        (λ _. IsReplayed world.old.book.case steps.now world.new.book.history) }
+        (λ _. IsReplayed world.old.routes world.old.book.case
+        steps.now world.new.book.history) }
     ensures whole { OnOk result (IfSome world.old.book.rows
-        (λ _. IsWholeReplay world.old.book.case steps.now world.new.book.history)) }
+        (λ _. IsWholeReplay world.old.routes world.old.book.case
+        steps.now world.new.book.history)) }
     ensures keeper_fault { result ≡ Err NodeFault.KeeperFault →
         Rose world.old.book.faults world.new.book.faults }
     ensures full { result ≡ Err NodeFault.HistoryFull →
         length world.new.book.history ≡ world.new.book.limit }
     ensures more { result ≡ Err NodeFault.HistoryFull → IfSome world.old.book.rows
-        (λ _. IsWholeReplay world.old.book.case steps.now world.new.book.history → ⊥) }
+        (λ _. IsWholeReplay world.old.routes world.old.book.case
+        steps.now world.new.book.history → ⊥) }
     ensures damaged { IfErr result (λ why.
         IsDamageOf (own_view world.new.book) (refusal_of why)) }
 {

@@ -194,6 +194,7 @@ fn topology_rule(why: TopologyRefusal) -> &'static str
         TopologyRefusal::UnknownStream => "UnknownStream",
         TopologyRefusal::BadNumber => "BadNumber",
         TopologyRefusal::BadCuts => "BadCuts",
+        TopologyRefusal::BadWeak => "BadWeak",
         TopologyRefusal::NoMemory => "NoMemory",
     }
 }

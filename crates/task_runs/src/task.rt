@@ -4,6 +4,7 @@ ghost use Rattle.task_runs.specs.Tasks.{is_at_once, wanted_of};
 
 use plans::{Actions, Schedule};
 use run_history::Case;
+use topology::Routes;
 
 /// What is to be written of a run.
 #[derive(Drop, Clone, Copy)]
@@ -49,8 +50,10 @@ pub enum Before {
 /// The case of a run, what comes before its drain, and what is to be written of it.
 #[derive(Drop)]
 pub struct Task {
-    /// What is run.
+    /// What is run, over a topology without weak computations.
     pub case: Case,
+    /// The weak computations that were left out of that topology, by the ways through them.
+    pub routes: Routes,
     /// What comes before the drain.
     pub before: Before,
     /// What is to be written.

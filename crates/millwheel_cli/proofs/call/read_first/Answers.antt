@@ -7,6 +7,6 @@ returns-in-Err-clause-refused g c =
     let bare = c.in_ok-bare.ensures in
     search (
       rules,
-      plan_refused _ _ _ _ _ _ _ _ c.args.call.now c.args.inputs.now _ _ bare.files bare.topology bare.faults_later
+      plan_refused _ _ _ _ _ _ _ _ c.args.call.now c.args.inputs.now _ _ _ bare.files bare.left bare.faults_later
           bare.lacks_later c.in-Err.ensures.refused,
     )

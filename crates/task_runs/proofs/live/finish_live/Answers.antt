@@ -1,5 +1,6 @@
 use Rattle.std.proofs.Common.{◌∙◌, ◌==◌, IfSome, Err, length, refl, sym, ap, subst}
 use Rattle.mw_types.proofs.CauseLaws.{Rose-before}
+use Rattle.topology.specs.Folding.{RoutesView}
 use Rattle.run_history.specs.Cases.{CaseShape}
 use Rattle.run_history.specs.Inputs.{IsRunnable}
 use Rattle.world.specs.scripts.Worlds.{World}
@@ -9,7 +10,7 @@ use Rattle.task_runs.specs.Histories.{GoesAs, IsAllOf}
 use Rattle.task_runs.specs.Answers.{RunLeaves}
 use Rattle.task_runs.specs.Lives.{HasResults, WritesReplay}
 use Rattle.task_runs.specs.Inside.{HasLiveCause, IsLiveBehind}
-use Rattle.task_runs.proofs.Running.{damaged_at, more_seen, run_of_book, run_short, same_where_empty, seen_on, whole_run}
+use Rattle.task_runs.proofs.Running.{damaged_at, more_seen, run_of_book, run_short, same_where_empty, seen_on, whole_run, over_task}
 use Rattle.task_runs.proofs.Statuses.{live_keeper, live_sink, written_keeper}
 use Rattle.task_runs.proofs.LivesLeft.{at_once, stopped_live, wrote_live}
 use Rattle.task_runs.proofs.live.finish_live.Goals as goal
@@ -24,20 +25,21 @@ returns-in-Ok-clause-left g c =
     let steps = c.args.steps.now in
     let some = g.O.Sink.text c.args.out.now in
     let mid = g.O.Sink.text c.run_live-ran.new.out in
-    let goes = subst (λ (b : Before). IfSome old.rows (λ _. GoesAs task.case b new.history)) (sym c.requires.before)
-    (subst (λ (k : CaseShape). IfSome old.rows (λ _. IsReplayed k steps new.history)) c.requires.case after.replayed) in
-    let all = subst (λ (b : Before). IfSome old.rows (λ _. IsAllOf task.case b new.history)) (sym c.requires.before)
-    (subst (λ (k : CaseShape). IfSome old.rows (λ _. IsWholeReplay k steps new.history)) c.requires.case
-    c.in-Ok.ensures.whole) in
+    let goes = subst (λ (b : Before). IfSome old.rows (λ _. GoesAs task.routes task.case b new.history)) (sym c.requires.before)
+    (over_task (λ (r : RoutesView) (k : CaseShape). IfSome old.rows (λ _. IsReplayed r k steps new.history)) c.requires.routes
+    c.requires.case after.replayed) in
+    let all = subst (λ (b : Before). IfSome old.rows (λ _. IsAllOf task.routes task.case b new.history)) (sym c.requires.before)
+    (over_task (λ (r : RoutesView) (k : CaseShape). IfSome old.rows (λ _. IsWholeReplay r k steps new.history)) c.requires.routes
+    c.requires.case c.in-Ok.ensures.whole) in
     let run = run_of_book task old new (some, g.O.Sink.text c.write_summary.new.out) c.requires.case after.case
     c.sound.ensures.lawful c.sound-2.ensures.lawful empty after.tells goes in
     let whole = whole_run task old.rows _ run (subst IsRunnable c.requires.case c.sound.ensures.lawful.runnable)
     c.drains_leave_no_work.ensures.finished after.tells all in
     let has = subst (λ (k : CaseShape). HasResults k.topology new.history (length steps == 0) some mid) c.requires.case
     c.in-Ok.ensures.results in
-    let lines = seen_on (WritesReplay task.case steps new.history some mid) old.rows new.rows after.tells
-    (subst (λ (k : CaseShape). IfSome old.rows (λ _. WritesReplay k steps new.history some mid)) c.requires.case
-    c.in-Ok.ensures.lines) in
+    let lines = seen_on (WritesReplay task.routes task.case steps new.history some mid) old.rows new.rows after.tells
+    (over_task (λ (r : RoutesView) (k : CaseShape). IfSome old.rows (λ _. WritesReplay r k steps new.history some mid)) c.requires.routes
+    c.requires.case c.in-Ok.ensures.lines) in
     wrote_live task _ steps mid (at_once task.wanted c.requires.live) c.requires.before whole has lines c.write_summary.result
     c.write_summary.ensures.written
 
@@ -52,8 +54,9 @@ returns-in-Err-clause-left g c =
     let some = g.O.Sink.text c.args.out.now in
     let mid = g.O.Sink.text c.run_live-ran.new.out in
     let fault = c.in-Err.fault in
-    let goes = subst (λ (b : Before). IfSome old.rows (λ _. GoesAs task.case b new.history)) (sym c.requires.before)
-    (subst (λ (k : CaseShape). IfSome old.rows (λ _. IsReplayed k steps new.history)) c.requires.case after.replayed) in
+    let goes = subst (λ (b : Before). IfSome old.rows (λ _. GoesAs task.routes task.case b new.history)) (sym c.requires.before)
+    (over_task (λ (r : RoutesView) (k : CaseShape). IfSome old.rows (λ _. IsReplayed r k steps new.history)) c.requires.routes
+    c.requires.case after.replayed) in
     let run = run_of_book task old new (some, mid) c.requires.case after.case
     c.sound.ensures.lawful c.sound-2.ensures.lawful empty after.tells goes in
     let behind = subst (λ (k : CaseShape). IsLiveBehind fault k.topology new.history some mid) c.requires.case c.in-Err.ensures.behind in
@@ -63,8 +66,8 @@ returns-in-Err-clause-left g c =
     (λ why e f. (subst (HasLiveCause old new _ _) e cause).full f ∙ after.limit ∙ c.requires.limit)
     (λ e. run_short task _ steps c.requires.before run (subst IsRunnable c.requires.case c.sound.ensures.lawful.runnable).topology
     c.drains_begin_the_drained_history.ensures.begins (more_seen _ old.rows new.rows after.tells
-    (subst (λ (k : CaseShape). IfSome old.rows (λ _. IsWholeReplay k steps new.history → ⊥)) c.requires.case
-    (c.in-Err.ensures.more (ap Err e)))))
+    (over_task (λ (r : RoutesView) (k : CaseShape). IfSome old.rows (λ _. IsWholeReplay r k steps new.history → ⊥)) c.requires.routes
+    c.requires.case (c.in-Err.ensures.more (ap Err e)))))
     (λ why name bytes e f. damaged_at task new why name bytes (after.case ∙ c.requires.case)
     (subst (HasLiveCause old new _ _) e cause).damaged f))
 

@@ -25,12 +25,14 @@ drain_live-requires g c =
 pub returns-in_err-script_live-clause-replayed : goal.returns-in_err-script_live-clause-replayed
 returns-in_err-script_live-clause-replayed g c =
     let old = c.args.world.now.book in
-    script_stopped old.case old.rows _ c.args.steps.now _ c.requires.begun c.in_err-script_live.ensures.begun
+    let routes = c.args.world.now.routes in
+    script_stopped routes old.case old.rows _ c.args.steps.now _ c.requires.begun c.in_err-script_live.ensures.begun
 
 pub returns-in_err-script_live-clause-more : goal.returns-in_err-script_live-clause-more
 returns-in_err-script_live-clause-more g c is =
     let old = c.args.world.now.book in
-    script_unended old.case old.rows _ c.args.steps.now _ c.sound.ensures.lawful.runnable.topology c.requires.begun
+    let routes = c.args.world.now.routes in
+    script_unended routes old.case old.rows _ c.args.steps.now _ c.sound.ensures.lawful.runnable.topology c.requires.begun
     c.in_err-script_live.ensures.begun
 
 -- ---- the script was done
@@ -47,26 +49,29 @@ returns-clause-tells g c = c.drain_live.ensures.gone.tells ∙ c.in_ok-script_li
 pub returns-clause-replayed : goal.returns-clause-replayed
 returns-clause-replayed g c =
     let old = c.args.world.now.book in
+    let routes = c.args.world.now.routes in
     let mid = c.script_live.new.world.book in
     let script = c.in_ok-script_live.ensures in
-    replayed_of old.case old.rows c.args.steps.now _
-    (drained_behind old.case mid.case old.rows mid.rows _ _ c.args.steps.now mid.history _ script.case script.tells
+    replayed_of routes old.case old.rows c.args.steps.now _
+    (drained_behind routes old.case mid.case old.rows mid.rows _ _ c.args.steps.now mid.history _ script.case script.tells
     c.requires.begun script.done refl c.drain_live.ensures.gone.grown c.drain_live.ensures.draining)
 
 pub returns-clause-more : goal.returns-clause-more
 returns-clause-more g c is =
     let old = c.args.world.now.book in
+    let routes = c.args.world.now.routes in
     let mid = c.script_live.new.world.book in
     let script = c.in_ok-script_live.ensures in
-    unended_behind old.case mid.case old.rows mid.rows _ _ c.args.steps.now mid.history _ script.case script.tells
+    unended_behind routes old.case mid.case old.rows mid.rows _ _ c.args.steps.now mid.history _ script.case script.tells
     c.requires.begun script.done refl (c.drain_live.ensures.more is)
 
 pub returns-clause-whole : goal.returns-clause-whole
 returns-clause-whole g c =
     let old = c.args.world.now.book in
+    let routes = c.args.world.now.routes in
     let mid = c.script_live.new.world.book in
     let script = c.in_ok-script_live.ensures in
-    on_ok-map _ (λ ended. whole_behind old.case mid.case old.rows mid.rows _ _ c.args.steps.now mid.history _ script.case script.tells
+    on_ok-map _ (λ ended. whole_behind routes old.case mid.case old.rows mid.rows _ _ c.args.steps.now mid.history _ script.case script.tells
     c.requires.begun script.done refl c.drain_live.ensures.gone.grown c.drain_live.ensures.draining ended) c.drain_live.ensures.ended
 
 pub returns-clause-cause : goal.returns-clause-cause
@@ -87,10 +92,11 @@ returns-clause-results g c =
 pub returns-clause-lines : goal.returns-clause-lines
 returns-clause-lines g c =
     let old = c.args.world.now.book in
+    let routes = c.args.world.now.routes in
     let script = c.in_ok-script_live.ensures in
     let outlet = c.script_live.new.outlet in
     let empty : length old.history ≡ 0 = ap (λ (w : World). length w.history) c.requires.begun in
-    on_ok-map c.drain_live.result (λ goes. replayed-lines old.case c.script_live.new.world.book.case (world_of c.args.world.now)
+    on_ok-map c.drain_live.result (λ goes. replayed-lines routes old.case c.script_live.new.world.book.case (world_of c.args.world.now)
     c.args.outlet.now.place c.args.steps.now c.drain_live.new.world.book.history outlet c.drain_live.new.outlet
     (g.O.Sink.text c.args.out.now) (g.O.Sink.text c.script_live.new.out) (g.O.Sink.text c.drain_live.new.out) old.rows
     script.case c.requires.begun (c.requires.pumped.at_end refl ∙ empty) script.lines goes) c.drain_live.ensures.lines

@@ -13,7 +13,7 @@ returns-clause-left g c text began empty =
     let lawful = c.look.ensures.lawful in
     let draining = c.drains_grow_by_their_next_entries.ensures.first task.case book.history in
     let goes = told_always book.rows
-    (rounds_stopped task.case task.before book.rows (Some c.args.fault) book.history draining c.requires.rounds) in
+    (rounds_stopped task.routes task.case task.before book.rows (Some c.args.fault) book.history draining c.requires.rounds) in
     let run = run_of_history task began book (text, text) empty c.requires.case lawful goes in
     subst (RunLeaves task _) (sym c.status_of_drain.ensures)
     (stopped task _ c.args.fault run (unwritten task.wanted task.case.topology book.history (text, text) c.requires.late refl) (λ e. c.requires.full e ∙ c.requires.limit)

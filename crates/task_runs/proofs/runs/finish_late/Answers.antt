@@ -2,6 +2,7 @@ use Rattle.std.proofs.Common.{◌∙◌, Err, List, All, IfSome, refl, sym, ap, 
 use Rattle.mw_types.specs.declared.entry.Entry.{Entry}
 use Rattle.book.specs.Books.{BookView, core_of}
 use Rattle.book.specs.Lawful.{IsLawful}
+use Rattle.topology.specs.Folding.{RoutesView}
 use Rattle.run_history.specs.Cases.{CaseShape}
 use Rattle.run_history.specs.Printing.{IsPrintable}
 use Rattle.run_history.specs.HistoryLines.{HasLine}
@@ -11,7 +12,7 @@ use Rattle.world.specs.Replays.{IsReplayed, IsWholeReplay}
 use Rattle.task_runs.specs.declared.task.Before.{Before}
 use Rattle.task_runs.specs.Histories.{GoesAs, IsAllOf}
 use Rattle.task_runs.specs.Answers.{RunLeaves}
-use Rattle.task_runs.proofs.Running.{run_of_book, run_short, whole_run, same_where_empty, damaged_at, more_seen}
+use Rattle.task_runs.proofs.Running.{run_of_book, run_short, whole_run, same_where_empty, damaged_at, more_seen, over_task}
 use Rattle.task_runs.proofs.Statuses.{drain_fault, drain_sink, text_keeper}
 use Rattle.task_runs.proofs.Leaving.{wrote_as, told_plainly, stopped, unwritten}
 use Rattle.task_runs.proofs.runs.finish_late.Goals as goal
@@ -24,11 +25,12 @@ returns-in-Ok-clause-left g c =
     let after = c.replay-replayed.ensures in
     let empty = ap (λ (w : World). w.history) c.requires.begun in
     let steps = c.args.steps.now in
-    let goes = subst (λ (b : Before). IfSome old.rows (λ _. GoesAs task.case b new.history)) (sym c.requires.before)
-    (subst (λ (k : CaseShape). IfSome old.rows (λ _. IsReplayed k steps new.history)) c.requires.case after.replayed) in
-    let all = subst (λ (b : Before). IfSome old.rows (λ _. IsAllOf task.case b new.history)) (sym c.requires.before)
-    (subst (λ (k : CaseShape). IfSome old.rows (λ _. IsWholeReplay k steps new.history)) c.requires.case
-    c.in-Ok.ensures.whole) in
+    let goes = subst (λ (b : Before). IfSome old.rows (λ _. GoesAs task.routes task.case b new.history)) (sym c.requires.before)
+    (over_task (λ (r : RoutesView) (k : CaseShape). IfSome old.rows (λ _. IsReplayed r k steps new.history)) c.requires.routes
+    c.requires.case after.replayed) in
+    let all = subst (λ (b : Before). IfSome old.rows (λ _. IsAllOf task.routes task.case b new.history)) (sym c.requires.before)
+    (over_task (λ (r : RoutesView) (k : CaseShape). IfSome old.rows (λ _. IsWholeReplay r k steps new.history)) c.requires.routes
+    c.requires.case c.in-Ok.ensures.whole) in
     let run = run_of_book task old new (g.O.Sink.text c.args.out.now, g.O.Sink.text c.write.new.out) c.requires.case after.case
     c.look.ensures.lawful c.look-2.ensures.lawful empty after.tells goes in
     let whole = whole_run task old.rows _ run (subst IsRunnable c.requires.case c.look.ensures.lawful.runnable)
@@ -48,16 +50,17 @@ returns-in-Err-clause-left g c =
     let text = g.O.Sink.text c.args.out.now in
     let empty = ap (λ (w : World). w.history) c.requires.begun in
     let steps = c.args.steps.now in
-    let goes = subst (λ (b : Before). IfSome old.rows (λ _. GoesAs task.case b new.history)) (sym c.requires.before)
-    (subst (λ (k : CaseShape). IfSome old.rows (λ _. IsReplayed k steps new.history)) c.requires.case after.replayed) in
+    let goes = subst (λ (b : Before). IfSome old.rows (λ _. GoesAs task.routes task.case b new.history)) (sym c.requires.before)
+    (over_task (λ (r : RoutesView) (k : CaseShape). IfSome old.rows (λ _. IsReplayed r k steps new.history)) c.requires.routes
+    c.requires.case after.replayed) in
     let run = run_of_book task old new (text, text) c.requires.case after.case
     c.look.ensures.lawful c.look-2.ensures.lawful empty after.tells goes in
     let status = stopped task _ c.in-Err.fault run (unwritten task.wanted task.case.topology new.history (text, text) c.requires.late refl)
     (λ e. c.in-Err.ensures.full (ap Err e) ∙ after.limit ∙ c.requires.limit)
     (λ e. run_short task _ steps c.requires.before run (subst IsRunnable c.requires.case c.look.ensures.lawful.runnable).topology
     c.drains_begin_the_drained_history.ensures.begins (more_seen _ old.rows new.rows after.tells
-    (subst (λ (k : CaseShape). IfSome old.rows (λ _. IsWholeReplay k steps new.history → ⊥)) c.requires.case
-    (c.in-Err.ensures.more (ap Err e)))))
+    (over_task (λ (r : RoutesView) (k : CaseShape). IfSome old.rows (λ _. IsWholeReplay r k steps new.history → ⊥)) c.requires.routes
+    c.requires.case (c.in-Err.ensures.more (ap Err e)))))
     (λ name bytes e. damaged_at task new _ name bytes (after.case ∙ c.requires.case) c.in-Err.ensures.damaged e) in
     subst (RunLeaves task _) (sym c.status_of_drain.ensures) status
 

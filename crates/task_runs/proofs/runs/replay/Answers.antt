@@ -9,12 +9,14 @@ use Rattle.task_runs.proofs.runs.replay.Goals as goal
 pub returns-in_err-run_script-clause-replayed : goal.returns-in_err-run_script-clause-replayed
 returns-in_err-run_script-clause-replayed g c =
     let old = c.args.world.now.book in
-    script_stopped old.case old.rows _ c.args.steps.now _ c.requires.begun c.in_err-run_script.ensures.begun
+    let routes = c.args.world.now.routes in
+    script_stopped routes old.case old.rows _ c.args.steps.now _ c.requires.begun c.in_err-run_script.ensures.begun
 
 pub returns-in_err-run_script-clause-more : goal.returns-in_err-run_script-clause-more
 returns-in_err-run_script-clause-more g c is =
     let old = c.args.world.now.book in
-    script_unended old.case old.rows _ c.args.steps.now _ c.look.ensures.lawful.runnable.topology c.requires.begun
+    let routes = c.args.world.now.routes in
+    script_unended routes old.case old.rows _ c.args.steps.now _ c.look.ensures.lawful.runnable.topology c.requires.begun
     c.in_err-run_script.ensures.begun
 
 -- ---- the script was done
@@ -31,10 +33,11 @@ returns-clause-tells g c = c.drain.ensures.tells ∙ c.in_ok-run_script.ensures.
 pub returns-clause-replayed : goal.returns-clause-replayed
 returns-clause-replayed g c =
     let old = c.args.world.now.book in
+    let routes = c.args.world.now.routes in
     let mid = c.run_script.new.world.book in
     let script = c.in_ok-run_script.ensures in
-    replayed_of old.case old.rows c.args.steps.now _
-    (drained_behind old.case mid.case old.rows mid.rows _ _ c.args.steps.now mid.history _ script.case script.tells
+    replayed_of routes old.case old.rows c.args.steps.now _
+    (drained_behind routes old.case mid.case old.rows mid.rows _ _ c.args.steps.now mid.history _ script.case script.tells
     c.requires.begun script.done refl c.drain.ensures.grown c.drain.ensures.draining)
 
 pub returns-clause-keeper_fault : goal.returns-clause-keeper_fault
@@ -46,15 +49,17 @@ returns-clause-full g c is = c.drain.ensures.full is
 pub returns-clause-more : goal.returns-clause-more
 returns-clause-more g c is =
     let old = c.args.world.now.book in
+    let routes = c.args.world.now.routes in
     let mid = c.run_script.new.world.book in
     let script = c.in_ok-run_script.ensures in
-    unended_behind old.case mid.case old.rows mid.rows _ _ c.args.steps.now mid.history _ script.case script.tells
+    unended_behind routes old.case mid.case old.rows mid.rows _ _ c.args.steps.now mid.history _ script.case script.tells
     c.requires.begun script.done refl (c.drain.ensures.more is)
 
 pub returns-clause-whole : goal.returns-clause-whole
 returns-clause-whole g c =
     let old = c.args.world.now.book in
+    let routes = c.args.world.now.routes in
     let mid = c.run_script.new.world.book in
     let script = c.in_ok-run_script.ensures in
-    on_ok-map _ (λ ended. whole_behind old.case mid.case old.rows mid.rows _ _ c.args.steps.now mid.history _ script.case script.tells
+    on_ok-map _ (λ ended. whole_behind routes old.case mid.case old.rows mid.rows _ _ c.args.steps.now mid.history _ script.case script.tells
     c.requires.begun script.done refl c.drain.ensures.grown c.drain.ensures.draining ended) c.drain.ensures.ended
