@@ -15,6 +15,7 @@ use Rattle.task_runs.specs.Answers.{Left, IsUnbegun}
 use Rattle.millwheel_cli.specs.Answers.{IsTextOf, CallLeaves, HasRun, HasWritten, HasDone, HasLeft}
 use Rattle.millwheel_cli.specs.Inside.{IsCallEnd, status_of}
 use Rattle.millwheel_cli.proofs.Reasons.{call_reason}
+use Rattle.millwheel_cli.proofs.Passing.{IsLawOfPasses, call_seen}
 use Rattle.task_runs.proofs.Leaving.{MayEnd, run_ends, text_ends}
 
 -- where no run was begun, nothing is left with a refusal of the files
@@ -85,10 +86,17 @@ left_of_text files asked left (status.AuditRefused line r) text = absurd text.le
 
 -- how a call ends is what its status leaves
 pub left_of_call : (seen : ShelfSeen) (asked : Option Command) (command : Command) (left : Left) (s : Status)
-    → asked ≡ Some command → IsCallEnd seen command.call left s → HasLeft seen.files asked left s
-left_of_call seen asked command left s named end = elim end [
+    → IsLawOfPasses → asked ≡ Some command → IsCallEnd seen command.call left s → HasLeft seen.files asked left s
+left_of_call seen asked command left s law named end = elim end [
   | inl is ↦ left_of_run seen.files asked left s
-      (record { command = command; named = named; task = is.task; is_task = is.is_task; leaves = is.leaves })
+      (record {
+        command = command;
+        named = named;
+        task = is.task;
+        is_task = is.is_task;
+        leaves = is.leaves;
+        passes = call_seen seen.files command.call is.task left s law is.is_task is.leaves;
+      })
       (call_ends command.call is.task left s is.leaves)
   | inr text ↦ elim text [
     | inl leaves ↦ left_of_text seen.files asked left s (record { command = command; named = named; leaves = leaves })

@@ -8,6 +8,7 @@ pub mod Foldings
 pub mod LoadLines
 pub mod LoadTaken
 pub mod Gathering
+pub mod Passing
 pub mod Leaving
 pub mod LateTasks
 pub mod Telling

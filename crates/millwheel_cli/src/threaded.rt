@@ -15,6 +15,7 @@ use crate::refusal::status_of_words;
 use command_line::read_words;
 use mw_ports::{Gate, Shelf, Sink};
 use mw_types::Name;
+use plain_answer::weak_passes_are_seen_through;
 use row_keeper::Keeper;
 use std::alloc::Global;
 use std::sync::Wait;
@@ -49,7 +50,8 @@ where
     G: Gate + Sync,
     // With Ok the files' case was run to its end, the keeper has its rows, and all of its text was
     // written; or it was counted, or the live lines of a file were gathered, or a trace was
-    // found to be a lawful run's, and all of that was written.
+    // found to be a lawful run's, and all of that was written. A plain count has the lines of the
+    // files' case with plain passes in the place of its weak computations.
     ensures ok { let left : Left = record {
       rows = (K.rows keeper, K.rows result.keeper);
       text = (O.text out.old, O.text out.new);
@@ -106,6 +108,7 @@ where
     ensures keeper_later { K.faults keeper ≤ K.faults result.keeper }
     ensures out_later { O.faults out.old ≤ O.faults out.new }
 {
+    weak_passes_are_seen_through();
     match read_words(alloc, words) {
         Ok(command) => {
             let done = called(rt, alloc, &command.call, shelf, keeper, out, gate);

@@ -4,7 +4,7 @@ use Rattle.millwheel_cli.proofs.threaded.millwheel.Goals as goal
 
 pub returns-in-Ok-clause-ok : goal.returns-in-Ok-clause-ok
 returns-in-Ok-clause-ok g c is =
-    ok_of_left _ _ _ _ (left_of_call _ _ c.in-Ok.command _ _ c.in-Ok.ensures.command c.called-done.ensures.ended) is
+    ok_of_left _ _ _ _ (left_of_call _ _ c.in-Ok.command _ _ c.weak_passes_are_seen_through.ensures.text c.in-Ok.ensures.command c.called-done.ensures.ended) is
 
 pub returns-in-Ok-clause-usage : goal.returns-in-Ok-clause-usage
 returns-in-Ok-clause-usage g c is =
@@ -23,7 +23,7 @@ returns-in-Ok-clause-answer g c held rows told seen_rows well kept written =
     let end = c.called-done.ensures in
     told_answer _ _ _ _ _ _ _ held rows _
     (reason_of_call _ _ c.in-Ok.command _ _ c.in-Ok.ensures.command end.ended)
-    (left_of_call _ _ c.in-Ok.command _ _ c.in-Ok.ensures.command end.ended)
+    (left_of_call _ _ c.in-Ok.command _ _ c.weak_passes_are_seen_through.ensures.text c.in-Ok.ensures.command end.ended)
     end.keeper_fault end.sink_fault end.tells told seen_rows well kept written
 
 pub returns-in-Ok-clause-unkept_answer : goal.returns-in-Ok-clause-unkept_answer
@@ -31,7 +31,7 @@ returns-in-Ok-clause-unkept_answer g c held call told asks well written =
     let end = c.called-done.ensures in
     told_unkept _ _ _ _ _ held call _
     (reason_of_call _ _ c.in-Ok.command _ _ c.in-Ok.ensures.command end.ended)
-    (left_of_call _ _ c.in-Ok.command _ _ c.in-Ok.ensures.command end.ended)
+    (left_of_call _ _ c.in-Ok.command _ _ c.weak_passes_are_seen_through.ensures.text c.in-Ok.ensures.command end.ended)
     end.sink_fault told asks well written
 
 pub returns-in-Ok-clause-uncalled : goal.returns-in-Ok-clause-uncalled
@@ -40,4 +40,4 @@ returns-in-Ok-clause-uncalled g c call asks =
 
 pub returns-in-Ok-clause-left : goal.returns-in-Ok-clause-left
 returns-in-Ok-clause-left g c =
-    left_of_call _ _ c.in-Ok.command _ _ c.in-Ok.ensures.command c.called-done.ensures.ended
+    left_of_call _ _ c.in-Ok.command _ _ c.weak_passes_are_seen_through.ensures.text c.in-Ok.ensures.command c.called-done.ensures.ended
