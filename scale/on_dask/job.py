@@ -4,7 +4,7 @@ import os
 import sys
 from collections import Counter
 from collections.abc import Callable, Iterable
-from dataclasses import dataclass, field
+from dataclasses import dataclass, field, replace
 from functools import partial
 from itertools import accumulate
 from operator import itemgetter
@@ -15,6 +15,7 @@ from dask.delayed import Delayed, delayed
 from distributed import Client, as_completed, futures_of
 
 from . import one_cut, one_part, result
+from .folding import without_weak
 from .keys import cut_of
 from .members import Chunk, Numbers
 from .program import Limits, Refused
@@ -303,6 +304,7 @@ def write_text(folder: str, cluster: Cluster, ranges: db.Bag, numbers: Numbers) 
 
 def run_job(client: Client, job: Job) -> None:
     """Runs the topology over its files and writes the text; a refusal comes before any of it."""
+    job = replace(job, topology=without_weak(job.topology))
     cluster = Cluster(client)
     injected, read = [], Numbers()
     for number in range(len(job.events)):

@@ -29,6 +29,12 @@ def kind(rng: random.Random) -> dict:
     return {"kind": name}
 
 
+def weakened(rng: random.Random, computations: list[dict], one: dict) -> dict:
+    """The same computation, or now and then a weak one, if it is a pass that is read."""
+    is_read = any(read["stream"] == one["stream"] for other in computations for read in other["reads"])
+    return {**one, "weak": True} if one["kind"] == "pass" and is_read and rng.random() < 0.5 else one
+
+
 def topology(rng: random.Random) -> dict:
     """A topology of one to three injectors and up to four computations; most can be split by one cut."""
     injectors = [{"name": "i%d" % n, "stream": "s%d" % n} for n in range(rng.randrange(1, 4))]
@@ -38,7 +44,7 @@ def topology(rng: random.Random) -> dict:
         reads = [{"stream": rng.choice(streams), "by": rng.choice(extractors)} for _ in range(rng.randrange(1, 4))]
         computations.append({**kind(rng), "name": "c%d" % n, "stream": "t%d" % n, "reads": reads})
         streams.append("t%d" % n)
-    return {"injectors": injectors, "computations": computations}
+    return {"injectors": injectors, "computations": [weakened(rng, computations, one) for one in computations]}
 
 
 def plain_line(rng: random.Random, now: int) -> bytes:

@@ -29,6 +29,7 @@ EDITS = {
     "late lines stand among the others": ("members", "timely + mark + late", "mark + timely + late", "tests.test_members"),
     "the last of the late lines is in time": ("members", "1 + max(map(stamp_of, late))", "max(map(stamp_of, late))",
                                               "tests.test_members"),
+    "the extractor of a weak pass is kept": ("folding", '"by": read["by"]', '"by": one["by"]', "tests.test_folding"),
     "the tail is the cut": ("keys", 'rpartition(b"/")[2]', 'partition(b"/")[2]', "tests.test_keys"),
     "head and tail have a cut": ("keys", 'if {"head", "tail"} <= taken', "if not taken", "tests.test_keys"),
     "an empty part is taken": ("keys", "if part else key", "if slash else key", "tests.test_keys"),
