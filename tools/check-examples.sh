@@ -16,6 +16,11 @@ expect expected.jsonl solo t.json e
 expect expected.jsonl plain t.json e
 expect expected.jsonl replay --plan old_owner.plan t.json e
 expect expected.jsonl replay --plan crash.plan t.json e
+expect expected.jsonl replay --plan lost_relay.plan relay.json e
+for mode in solo plain; do
+    expect expected.jsonl $mode relay.json e
+done
+expect expected.jsonl run --workers 2 --rounds 4 relay.json e
 expect expected.jsonl run --workers 2 --rounds 4 t.json e
 expect expected.jsonl run --workers 2 --rounds 4 --plan rounds.plan t.json e
 for mode in solo plain; do

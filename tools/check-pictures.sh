@@ -15,8 +15,9 @@ picture() {
     [ -n "$drawn" ] && [ "$drawn" = "$(cat "$kept")" ] || { echo "another picture: $1"; failed=1; }
 }
 
-for name in old_owner crash; do
-    picture "$name" < <("$program" replay --history --plan $name.plan t.json e | "$tools/draw-history.py" --topology t.json)
+for drawn in old_owner:t.json crash:t.json lost_relay:relay.json; do
+    name="${drawn%:*}" topology="${drawn#*:}"
+    picture "$name" < <("$program" replay --history --plan $name.plan $topology e | "$tools/draw-history.py" --topology $topology)
 done
 picture requests < <("$tools/draw-result.py" requests_per_minute spikes < requests/expected.jsonl)
 job=(requests/topology.json requests/front1.jsonl requests/front2.jsonl)

@@ -26,6 +26,7 @@ cp "$root/examples/e" e
 sed 's/"reads":\[{"stream":"raw"/"reads":[{"stream":"later"/' t.json > later.json
 sed 's/\],"computations"/,{"name":"taps","stream":"more"}],"computations"/' t.json > taps.json
 sed 's/"by":"key"/"by":"head"/' t.json > head.json
+sed 's/"stream":"mid","by"/"stream":"raw","by"/' "$root/examples/relay.json" > unheard.json
 printf '{"key":"a","ts":10}\n{"key":"a","ts":1' > cut
 head -c 1048577 /dev/zero | tr '\0' ' ' > long.json
 mkdir folder
@@ -42,6 +43,7 @@ expect 0 '' solo taps.json e e
 expect 0 '' solo --keep rows.db t.json e
 expect 3 'millwheel: no file missing' solo t.json missing
 expect 4 'millwheel: topology refused: UnknownStream' solo later.json e
+expect 4 'millwheel: topology refused: BadWeak' solo unheard.json e
 expect 5 'millwheel: events refused: file 0 line 2: NotJson' solo t.json cut
 expect 5 'millwheel: events refused: file 1 line 2: NotJson' solo taps.json e cut
 expect 6 'millwheel: plan refused: line 1' replay --plan e t.json e

@@ -119,10 +119,10 @@ class Names:
             sys.exit(f"no topology in {path}: {why}")
 
     def read(self, path: str) -> list[dict]:
-        """The parts of a topology's file, in their order."""
+        """The parts of a topology's file, in their order: weak computations are left out, as in the history."""
         with open(path, encoding="utf-8") as told:
             found = json.load(told)
-        return found["injectors"] + found["computations"]
+        return found["injectors"] + [it for it in found["computations"] if not it.get("weak")]
 
     def interval(self, number: int) -> tuple[str, str]:
         """The name of an interval's part, and which keys it has, where its part has several."""
