@@ -24,6 +24,7 @@ mod statuses;
 mod texts;
 mod threads;
 mod topologies;
+mod weak_passes;
 
 use millwheel_cli::Status;
 use mw_ports::{FileList, NamedFile};

@@ -11,11 +11,11 @@ use std::alloc::Global;
 use std::process::Abort;
 use std::str;
 
-// The line that audits a trace of one event file.
-const AUDIT: &str = "audit --trace r t.json e";
+/// The line that audits a trace of one event file.
+pub const AUDIT: &str = "audit --trace r t.json e";
 
-// Two records, with a watermark between them, which the trace `MARKED` is of.
-const MARKED_EVENTS: &str =
+/// Two records, with a watermark between them, which the trace `MARKED` is of.
+pub const MARKED_EVENTS: &str =
     "{\"key\":\"a\",\"ts\":10}\n{\"watermark\":60}\n{\"key\":\"a\",\"ts\":70}\n";
 
 // A plan whose second worker claims the row while the first has its record prepared.

@@ -4,7 +4,7 @@ use super::events::EVENTS;
 use super::looks::{BadCase, Case, Look, all_fail_so, all_hold};
 use super::topologies::{COUNT, TAILS};
 
-// What the first example writes up to its first result, up to its second, and in all.
+// What the first example writes up to its first result, and up to its second.
 const ONE: &str =
     r#"{"id":"00000000-0000-8000-8000-00000000000b","key":"a","stream":"windows","ts":60,"value":2}
 "#;
@@ -14,7 +14,8 @@ const BOTH: &str =
 {"id":"00000000-0000-8000-8000-00000000000c","key":"a","stream":"windows","ts":120,"value":1}
 "#;
 
-const ALL: &str =
+/// What the first example writes in all.
+pub const ALL: &str =
     r#"{"id":"00000000-0000-8000-8000-00000000000b","key":"a","stream":"windows","ts":60,"value":2}
 {"id":"00000000-0000-8000-8000-00000000000c","key":"a","stream":"windows","ts":120,"value":1}
 {"fired":2,"handled":3,"injected":3,"late":0}

@@ -80,11 +80,21 @@ const MOST: Files<'static> = &[
     ("e", EVENTS),
 ];
 
+// A weak pass that nothing reads.
+const UNREAD: Files<'static> = &[
+    (
+        "t.json",
+        r#"{"injectors":[{"name":"clicks","stream":"raw"}],"computations":[{"name":"near","kind":"pass","weak":true,"reads":[{"stream":"raw","by":"key"}],"stream":"mid"},{"name":"per_minute","kind":"count","size":60,"reads":[{"stream":"raw","by":"key"}],"stream":"windows"}]}"#,
+    ),
+    ("e", EVENTS),
+];
+
 // What is said of each.
-static CHANGES: [Refusal; 3] = [
+static CHANGES: [Refusal; 4] = [
     (SOLO, LATER, "topology refused: UnknownStream"),
     (SOLO, MORE, "1 event files for 2 injectors"),
     (SOLO, MOST, "1 event files for 3 injectors"),
+    (SOLO, UNREAD, "topology refused: BadWeak"),
 ];
 
 #[test]

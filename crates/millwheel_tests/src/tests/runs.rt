@@ -9,7 +9,7 @@ use super::calls::{SOLO, keeper, sink};
 use super::looks::{Claim, Look};
 use super::must_hold;
 use super::threads::{seen, seen_at};
-use super::topologies::{COUNT, CUTS};
+use super::topologies::{COUNT, CUTS, RELAYED};
 use mw_ports::OpenGate;
 use std::alloc::Global;
 use std::process::Abort;
@@ -93,7 +93,7 @@ const ALONE_CLAIMS: &[Claim] = &[(0, 0), (0, 1), (0, 0), (0, 1)];
 const MANY_CLAIMS: &[Claim] = &[(0, 0), (1, 1), (0, 0), (0, 1)];
 
 // Runs: of each the line, the files, and the claims.
-static RUNS: [(&str, Files<'static>, &[Claim]); 7] = [
+static RUNS: [(&str, Files<'static>, &[Claim]); 8] = [
     (PLANNED, (CUTS, PLAN, 60), PLANNED_CLAIMS),
     (
         "run --workers 2 --rounds 12 --plan p t.json e",
@@ -123,6 +123,11 @@ static RUNS: [(&str, Files<'static>, &[Claim]); 7] = [
     (
         "run --workers 16 --rounds 2 t.json e",
         (COUNT, b"", 60),
+        MANY_CLAIMS,
+    ),
+    (
+        "run --workers 2 --rounds 4 t.json e",
+        (RELAYED, b"", 60),
         MANY_CLAIMS,
     ),
 ];

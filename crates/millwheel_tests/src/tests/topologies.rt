@@ -47,3 +47,8 @@ pub const SPELLED: &str =
 
 // What is injected is read by nobody.
 pub const UNREAD: &str = r#"{"injectors":[{"name":"clicks","stream":"raw"}],"computations":[]}"#;
+
+// One count over windows of 60, of what a weak pass sends on.
+pub const RELAYED: &str =
+    r#"{"injectors":[{"name":"clicks","stream":"raw"}],"computations":[{"name":"near","kind":"pass","weak":true,"reads":[{"stream":"raw","by":"key"}],"stream":"mid"},{"name":"per_minute","kind":"count","size":60,"reads":[{"stream":"mid","by":"key"}],"stream":"windows"}]}
+"#;

@@ -18,7 +18,7 @@ use row_keeper::{Keeper, MemKeeper};
 use run_history::{Case, EntryRef, History};
 use std::alloc::Global;
 use std::process::Abort;
-use topology::{Topology, read};
+use topology::{Folded, Topology, read};
 use world::{Schedule, Step, World, read_schedule};
 
 // The topology of the first example, which has one injector.
@@ -72,7 +72,9 @@ fn world<'a>(
 ) -> World<'a, MemKeeper, Kinds> {
     let work = made(rt, work(alloc, case));
     let book = made(rt, Book::start(alloc, case, keeper, 1 << 32));
-    made(rt, World::start(alloc, book, work))
+    let Folded { topology, routes } = made(rt, case.topology.fold(alloc));
+    drop(topology);
+    made(rt, World::start(alloc, book, work, routes))
 }
 
 // The one step of a line.
@@ -96,7 +98,7 @@ fn schedule(rt: &impl Abort, alloc: Global, case: &Case, text: &str) -> Schedule
     if bytes.len() > 1 << 20 {
         rt.panic("too long")
     }
-    made(rt, read_schedule(alloc, bytes, case))
+    made(rt, read_schedule(alloc, bytes, case, 0))
 }
 
 // What the step of a line answers. No other function does a step, since each that does carries what its clauses tell.
