@@ -1,6 +1,6 @@
 //! The program `millwheel` as a library: from the words of the command line to the text and the status.
 //!
-//! `solo T E..` reads a topology and event files, one an injector, works them off on one thread over a keeper
+//! `solo T E..` reads a topology, of which its weak passes are left out, and event files, one an injector, works them off on one thread over a keeper
 //! of rows, and writes the result, and with `--history` the history before it, or with `--live` each result as
 //! soon as its entry is there. `replay --plan P T E..` does the steps of a plan first. `run --workers N
 //! --rounds R T E..` has so many workers, which are threads, do so many rounds of work first, with a plan or

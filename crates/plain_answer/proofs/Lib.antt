@@ -41,3 +41,7 @@ pub mod Shards
 pub mod KindShards
 pub mod TextShards
 pub mod Cuts
+pub mod StreamNames
+pub mod StillRead
+pub mod NamedReads
+pub mod WeakPasses

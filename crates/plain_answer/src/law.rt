@@ -11,6 +11,8 @@ ghost use Rattle.run_history.specs.Inputs.{IsRunnable};
 ghost use Rattle.run_history.specs.Texts.{IsResultText};
 ghost use Rattle.plain_answer.specs.Ends.{IsFinishedRun};
 ghost use Rattle.plain_answer.specs.Plain.{Keyed, plain_of, fires_of, fired_of, handled_of, injected_count, late_count, plain_lines, IsPlainText};
+ghost use Rattle.topology.specs.Rules.{IsTopology};
+ghost use Rattle.plain_answer.specs.Passes.{with_passes, without_weak, HasLinesOf};
 ghost use Rattle.plain_answer.specs.Splits.{Split, reads_in, FollowsReadings, IsUnread, behind_last, AreShards, IsMergedText};
 
 /// The result text of a run that is at its end is the plain count of its files, whatever the order
@@ -78,4 +80,13 @@ pub fn cuts_follow_readings()
         IsUnread shape Tail → FollowsReadings shape (λ key. split (extracted Head key)) }
     ensures last { (shape : Shape) (split : Split) →
         IsUnread shape Head → FollowsReadings shape (λ key. split (behind_last key)) }
+{}
+
+/// A weak pass is seen through: the lines of a case without its weak computations are those of the case
+/// with plain passes in their place. The summary line alone tells them apart.
+pub fn weak_passes_are_seen_through()
+    ensures lines { (case : CaseShape) → IsTopology case.topology →
+        IsPermutation (plain_lines (with_passes case)) (plain_lines (without_weak case)) }
+    ensures text { (case : CaseShape) (text : List ℕ) → IsTopology case.topology →
+        IsPlainText (without_weak case) text → HasLinesOf (with_passes case) text }
 {}

@@ -29,6 +29,7 @@ pub use examples::{
 pub use law::{
     a_case_has_one_plain_text, cuts_follow_readings, finished_runs_write_one_text,
     plain_counts_split_by_key, plain_texts_split, results_are_the_plain_count,
+    weak_passes_are_seen_through,
 };
 pub use text::plain_text;
 pub use windows::windows_of;
