@@ -23,6 +23,7 @@ load_shape = record {
     reads = record { stream = codes "raw"; by = Key } ∷ [];
     stream = codes "windows";
     cuts = codes "h" ∷ codes "q" ∷ [];
+    weak = false;
   } ∷ [];
 }
 

@@ -1,6 +1,6 @@
 -- Cases that were worked by hand: a late record, and windows of which one is, or is not, far above those
 -- before it. Own.
-use Rattle.std.specs.Prelude.{ℕ, pos, true, List, [], ◌∷◌, map, codes}
+use Rattle.std.specs.Prelude.{ℕ, pos, true, false, List, [], ◌∷◌, map, codes}
 use Rattle.mw_types.specs.declared.kind.Kind.TheVariants.{Spike}
 use Rattle.injector.specs.Sources.{SourceLine}
 use Rattle.topology.specs.declared.subscription.By.TheVariants.{Key}
@@ -27,6 +27,7 @@ far_above = record {
   reads = record { stream = codes "windows"; by = Key } ∷ [];
   stream = codes "alerts";
   cuts = [];
+  weak = false;
 }
 
 -- windows of 60, and that spike behind them

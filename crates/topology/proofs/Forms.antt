@@ -1,12 +1,15 @@
 -- What a shape has that a file's value states.
-use Rattle.std.proofs.Common.{◌≡◌, ℕ, ◌≤◌, Bool, true, false, cond, List, [], ◌∷◌, length, All, Option, Some, None, unwrap_or, codes, refl, ap, subst, arith}
+use Rattle.std.proofs.Common.{◌≡◌, ℕ, ◌≤◌, Bool, true, false, cond, List, [], ◌∷◌, length, All, Option, Some, None, unwrap_or, codes, true≢false, refl, sym, ◌∙◌, ap, subst, arith}
 use Rattle.std.proofs.lemmas.Option.{none-some}
 use Rattle.std.proofs.lemmas.List.Elements.{All-nil, All-cons}
 use Rattle.serde_json.specs.Data.{Data, Items, no_items, item}
 use Rattle.mw_types.specs.declared.kind.Kind.{Kind}
+use Rattle.mw_types.specs.declared.kind.Kind.TheVariants.{Count, Spike, Pass}
 use Rattle.topology.specs.Shapes.{Shape, InjectorShape, ComputationShape, Reading}
-use Rattle.topology.specs.Grammar.{and_then, has_members, each_of, array_in, list_in, injector_in, some_of, text_in, reading_in, kind_in, reads_in, cuts_in, members_of, computation_in, injectors_in, shape_in, computation_of_kind}
+use Rattle.topology.specs.Grammar.{and_then, has_members, each_of, array_in, list_in, injector_in, some_of, text_in, reading_in, kind_in, reads_in, cuts_in, weak_in, members_of, computation_in, injectors_in, shape_in, computation_of_kind}
+use Rattle.topology.specs.Rules.{IsPassWhereWeak}
 use Rattle.topology.specs.Answers.{IsFull}
+use Rattle.list_lemmas.proofs.Lists.{some_same}
 
 -- what two steps give, the first gave something for
 and_then-some : {A B : Type 0} (o : Option A) (f : A → Option B) (y : B) → and_then o f ≡ Some y → (x : A) × (o ≡ Some x) × (f x ≡ Some y)
@@ -38,26 +41,46 @@ each_of-all form P holds (item value rest) xs e =
     at_some (All P) (first.0 ∷ others.0) xs others.2
     (All-cons P first.0 others.0 (holds value first.0 first.1) (each_of-all form P holds rest others.0 others.1))
 
--- the readings of a computation are those that were found
-reads_stated : (kind : Kind) (n : Option (List ℕ)) (r : Option (List Reading)) (s : Option (List ℕ)) (k : Option (List (List ℕ))) (c : ComputationShape)
-    → and_then n (λ name. and_then r (λ reads. and_then s (λ stream. and_then k (λ cuts.
-    Some (record { name = name; kind = kind; reads = reads; stream = stream; cuts = cuts }))))) ≡ Some c
-    → r ≡ Some c.reads
-reads_stated kind None r s k c e = absurd (none-some c e)
-reads_stated kind (Some n) None s k c e = absurd (none-some c e)
-reads_stated kind (Some n) (Some r) None k c e = absurd (none-some c e)
-reads_stated kind (Some n) (Some r) (Some s) None c e = absurd (none-some c e)
-reads_stated kind (Some n) (Some r) (Some s) (Some k) c e = at_some (λ (c : ComputationShape). Some r ≡ Some c.reads) _ c e refl
+-- a computation has the kind, the readings and the weakness that were found
+all_stated : (kind : Kind) (w : Option Bool) (n : Option (List ℕ)) (r : Option (List Reading)) (s : Option (List ℕ))
+    (k : Option (List (List ℕ))) (c : ComputationShape)
+    → and_then w (λ weak. and_then n (λ name. and_then r (λ reads. and_then s (λ stream. and_then k (λ cuts.
+    Some (record { name = name; kind = kind; reads = reads; stream = stream; cuts = cuts; weak = weak })))))) ≡ Some c
+    → (r ≡ Some c.reads) × (w ≡ Some c.weak) × (kind ≡ c.kind)
+all_stated kind None n r s k c e = absurd (none-some c e)
+all_stated kind (Some w) None r s k c e = absurd (none-some c e)
+all_stated kind (Some w) (Some n) None s k c e = absurd (none-some c e)
+all_stated kind (Some w) (Some n) (Some r) None k c e = absurd (none-some c e)
+all_stated kind (Some w) (Some n) (Some r) (Some s) None c e = absurd (none-some c e)
+all_stated kind (Some w) (Some n) (Some r) (Some s) (Some k) c e =
+    at_some (λ (c : ComputationShape). (Some r ≡ Some c.reads) × (Some w ≡ Some c.weak) × (kind ≡ c.kind)) _ c e (refl, refl, refl)
+
+-- so it has what its value states
+computation_in-stated : (value : Data) (c : ComputationShape) → computation_in value ≡ Some c
+    → (reads_in value ≡ Some c.reads) × (weak_in c.kind value ≡ Some c.weak)
+computation_in-stated value c e =
+    let kind = and_then-some (kind_in value) (computation_of_kind value) c e in
+    let stated = all_stated kind.0 (weak_in kind.0 value) (text_in (codes "name") value) (reads_in value)
+    (text_in (codes "stream") value) (cuts_in value) c
+    (if-some (has_members (members_of kind.0 value) value) _ c kind.2) in
+    (stated.0, ap (λ k. weak_in k value) (sym stated.2) ∙ stated.1)
 
 -- a computation reads something
 computation_in-reads : (value : Data) (c : ComputationShape) → computation_in value ≡ Some c → 1 ≤ length c.reads
 computation_in-reads value c e =
-    let kind = and_then-some (kind_in value) (computation_of_kind value) c e in
     let reads = list_in reading_in (codes "reads") value in
-    let stated = reads_stated kind.0 (text_in (codes "name") value) (reads_in value)
-    (text_in (codes "stream") value) (cuts_in value) c (if-some (has_members (members_of kind.0 value) value) _ c kind.2) in
-    let listed = and_then-some reads some_of c.reads stated in
+    let listed = and_then-some reads some_of c.reads (computation_in-stated value c e).0 in
     some_of-some listed.0 c.reads listed.2
+
+-- a kind that may be weak is that of a pass
+weak-pass : (kind : Kind) (value : Data) → weak_in kind value ≡ Some true → kind ≡ Pass
+weak-pass (Count size) value e = absurd (true≢false (sym (some_same false true e)))
+weak-pass (Spike last times) value e = absurd (true≢false (sym (some_same false true e)))
+weak-pass Pass value e = refl
+
+-- so a weak computation is a pass
+computation_in-pass : (value : Data) (c : ComputationShape) → computation_in value ≡ Some c → c.weak ≡ true → c.kind ≡ Pass
+computation_in-pass value c e weak = weak-pass c.kind value ((computation_in-stated value c e).1 ∙ ap Some weak)
 
 -- the parts of a shape are those that were found
 parts_stated : (i : Option (List InjectorShape)) (cs : Option (List ComputationShape)) (shape : Shape)
@@ -79,4 +102,5 @@ full_shape value shape e =
     record {
       some_injector = some_of-some first.0 shape.injectors first.2;
       reading = each_of-all computation_in (λ (c : ComputationShape). 1 ≤ length c.reads) computation_in-reads listed.0 shape.computations listed.2;
+      passes = each_of-all computation_in IsPassWhereWeak computation_in-pass listed.0 shape.computations listed.2;
     }

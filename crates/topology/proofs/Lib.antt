@@ -6,3 +6,7 @@ pub mod Texts
 pub mod RulesHold
 pub mod Stating
 pub mod Forms
+pub mod FoldLaws
+pub mod ReadOrder
+pub mod WhatIsLeft
+pub mod FewWays

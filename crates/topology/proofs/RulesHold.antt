@@ -122,6 +122,7 @@ checked-is_topology shape s full e =
     let above = held _ _ _ s streams.1 in
     let range = held _ _ _ s above.1 in
     let cuts = held _ _ _ s range.1 in
+    let foldable = held _ _ _ s cuts.1 in
     let intervals = and_parts _ _ few.0 in
     let readings = and_parts _ _ intervals.0 in
     let parts = and_parts _ _ readings.0 in
@@ -139,4 +140,6 @@ checked-is_topology shape s full e =
       above = reads_above-above shape above.0;
       kinds = All-weaker (λ (c : ComputationShape). in_range c.kind ≡ true) (λ (c : ComputationShape). IsKind c.kind) (λ c passes. in_range-is_kind c.kind passes) shape.computations (AllPass-from_list_all _ shape.computations range.0);
       cuts = All-weaker (λ (c : ComputationShape). are_cuts c.cuts ≡ true) (λ (c : ComputationShape). AreCutKeys c.cuts) (λ c passes. are_cuts-cuts c.cuts passes) shape.computations (AllPass-from_list_all _ shape.computations cuts.0);
+      passes = full.passes;
+      foldable = foldable.0;
     }

@@ -1,12 +1,12 @@
 -- The topology of one count keeps the rules.
-use Rattle.std.proofs.Common.{◌≡◌, ℕ, zero, suc, ◌-◌, ◌≤◌, Bool, true, false, cond, Option, None, [], ◌∷◌, length, take, All, Contains, refl, arith, lit≤, lit<}
+use Rattle.std.proofs.Common.{◌≡◌, ℕ, zero, suc, ◌-◌, ◌≤◌, Bool, true, false, cond, Option, None, [], ◌∷◌, length, take, All, Contains, true≢false, refl, sym, arith, lit≤, lit<}
 use Rattle.std.specs.List.Sorted.{IsStrictlySortedBy}
 use Rattle.std.proofs.lemmas.List.Elements.{All-nil, All-cons}
 use Rattle.std.proofs.lemmas.Option.{slice_get_past}
 use Rattle.mw_types.specs.Kinds.{IsKind}
 use Rattle.mw_types.specs.declared.kind.Kind.TheVariants.{Count}
 use Rattle.topology.specs.Shapes.{Shape, Reading, ComputationShape, injectors_of, parts_of, streams_of, computation_of, reads_of}
-use Rattle.topology.specs.Rules.{IsTopology, AreCutKeys}
+use Rattle.topology.specs.Rules.{IsTopology, AreCutKeys, IsPassWhereWeak}
 use Rattle.topology.specs.Samples.{one_count}
 
 -- what holds of an element holds of each of the list of it alone
@@ -49,4 +49,6 @@ one_count-is_topology size kind = record {
   above = one_count-above size;
   kinds = all_one (λ (c : ComputationShape). IsKind c.kind) _ kind;
   cuts = all_one (λ (c : ComputationShape). AreCutKeys c.cuts) _ no_cuts;
+  foldable = refl;
+  passes = all_one IsPassWhereWeak _ (λ e. absurd (true≢false (sym e)));
 }

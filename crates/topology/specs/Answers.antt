@@ -1,6 +1,7 @@
 -- How the functions that read a file's shape answer, and what they count. No public clause cites this module.
 use Rattle.std.specs.Prelude.{◌≡◌, ◌≤◌, ◌++◌, ℕ, List, All, length, sum_by, ⊤, Option, Some, None, Result, Ok, Err}
 use Rattle.topology.specs.Shapes.{Shape, ComputationShape}
+use Rattle.topology.specs.Rules.{IsPassWhereWeak}
 use Rattle.topology.specs.declared.refusal.ShapeRefusal.{ShapeRefusal}
 use Rattle.topology.specs.declared.refusal.ShapeRefusal.TheVariants.{BadShape, NoMemory}
 
@@ -23,7 +24,8 @@ reading_count computations = sum_by (λ (c : ComputationShape). length c.reads) 
 abbrev pub cut_count : List ComputationShape → ℕ
 cut_count computations = sum_by (λ (c : ComputationShape). length c.cuts) computations
 
--- there is an injector, and each computation reads something, as the form of a file asks
+-- there is an injector, each computation reads something, and a weak one is a pass, as the form of a file asks
 pub record IsFull (shape : Shape) : Type 0 where
   pub some_injector : 1 ≤ length shape.injectors
   pub reading : All (λ (c : ComputationShape). 1 ≤ length c.reads) shape.computations
+  pub passes : All IsPassWhereWeak shape.computations

@@ -10,11 +10,12 @@ use Rattle.mw_types.specs.Orders.{key_cmp}
 use Rattle.json_reading.specs.Texts.{json_of}
 use Rattle.mw_types.specs.declared.kind.Kind.{Kind}
 use Rattle.mw_types.specs.declared.kind.Kind.TheVariants.{Count, Spike, Pass}
+use Rattle.topology.specs.Folding.{is_foldable}
 use Rattle.topology.specs.Shapes.{Shape, ComputationShape, Reading, injectors_of, streams_of}
 use Rattle.topology.specs.Rules.{is_name, all_differ, names_of, interval_count}
 use Rattle.topology.specs.Grammar.{shape_in}
 use Rattle.topology.specs.declared.refusal.TopologyRefusal.{TopologyRefusal}
-use Rattle.topology.specs.declared.refusal.TopologyRefusal.TheVariants.{NotJson, BadShape, TooMany, BadName, DoubleName, DoubleStream, UnknownStream, BadNumber, BadCuts}
+use Rattle.topology.specs.declared.refusal.TopologyRefusal.TheVariants.{NotJson, BadShape, TooMany, BadName, DoubleName, DoubleStream, UnknownStream, BadNumber, BadCuts, BadWeak}
 
 -- at most 16 injectors, 32 computations, 64 readings and 61 intervals
 abbrev pub is_few : Shape → Bool
@@ -69,6 +70,10 @@ has_cuts shape = list_all (λ (c : ComputationShape). are_cuts c.cuts) shape.com
 abbrev pub where_holds : Bool → TopologyRefusal → Result Shape TopologyRefusal → Result Shape TopologyRefusal
 where_holds holds refusal next = if holds then next else Err refusal
 
+-- the shape, where its weak computations may be left out
+abbrev pub woven : Shape → Result Shape TopologyRefusal
+woven shape = where_holds (is_foldable shape) BadWeak (Ok shape)
+
 -- the shape, where it keeps the rules, or the first that it breaks
 abbrev pub checked : Shape → Result Shape TopologyRefusal
 checked shape =
@@ -78,7 +83,7 @@ checked shape =
     (where_holds (all_differ (streams_of shape)) DoubleStream
     (where_holds (reads_above shape) UnknownStream
     (where_holds (is_in_range shape) BadNumber
-    (where_holds (has_cuts shape) BadCuts (Ok shape)))))))
+    (where_holds (has_cuts shape) BadCuts (woven shape)))))))
 
 -- the topology that a JSON value states, or the first rule that it breaks
 abbrev pub topology_at : Data → Result Shape TopologyRefusal

@@ -5,7 +5,7 @@ use Rattle.std.specs.Prelude.{ℕ, ◌+◌, ◌-◌, ◌==◌, ◌^◌, suc, Lis
 use Rattle.std.specs.Option.{option_map, option_map_or}
 use Rattle.std.specs.Cmp.Lexicographic.{pointwise}
 use Rattle.serde_json.specs.Data.{Num, Data, Items, no_items, item, Members, no_members, member}
-use Rattle.serde_json.specs.Find.{get, as_array, as_object, as_number, as_str, as_u64}
+use Rattle.serde_json.specs.Find.{get, as_array, as_object, as_number, as_str, as_u64, as_bool}
 use Rattle.mw_types.specs.declared.kind.Kind.{Kind}
 use Rattle.mw_types.specs.declared.kind.Kind.TheVariants.{Count, Spike, Pass}
 use Rattle.topology.specs.declared.subscription.By.{By}
@@ -126,19 +126,40 @@ numbers_of (Count size) = 1
 numbers_of (Spike last times) = 2
 numbers_of Pass = 0
 
--- how many members a computation of this kind has: four, those of its kind, and the cuts where they are stated
-abbrev pub members_of : Kind → Data → ℕ
-members_of kind value = 4 + numbers_of kind + option_map_or (λ cuts. 1) (get (codes "cuts") value) 0
+-- how many members have this name, 1 or none
+abbrev pub stated : List ℕ → Data → ℕ
+stated name value = option_map_or (λ member. 1) (get name value) 0
 
--- a computation of this kind, which has a name, readings, a stream, maybe cuts, and no other member
+-- how many members say whether a computation of this kind is weak, which a pass alone may have
+abbrev pub weak_stated : Kind → Data → ℕ
+weak_stated Pass value = stated (codes "weak") value
+weak_stated _ value = 0
+
+-- whether a pass is weak: what its member says, and where it has none it is strong
+abbrev pub stated_weak : Data → Option Bool
+stated_weak value = option_map_or as_bool (get (codes "weak") value) (Some false)
+
+-- whether a computation of this kind is weak, which a pass alone can be
+abbrev pub weak_in : Kind → Data → Option Bool
+weak_in Pass value = stated_weak value
+weak_in _ value = Some false
+
+-- how many members a computation of this kind has: four, those of its kind, and `cuts` and `weak` where they
+-- are stated
+abbrev pub members_of : Kind → Data → ℕ
+members_of kind value = 4 + numbers_of kind + stated (codes "cuts") value + weak_stated kind value
+
+-- a computation of this kind, which has a name, readings, a stream, maybe cuts and as a pass maybe `weak`,
+-- and no other member
 abbrev pub computation_of_kind : Data → Kind → Option ComputationShape
 computation_of_kind value kind =
     with_members (members_of kind value) value
-    (and_then (text_in (codes "name") value) (λ name.
+    (and_then (weak_in kind value) (λ weak.
+    and_then (text_in (codes "name") value) (λ name.
     and_then (reads_in value) (λ reads.
     and_then (text_in (codes "stream") value) (λ stream.
     and_then (cuts_in value) (λ cuts.
-    Some (record { name = name; kind = kind; reads = reads; stream = stream; cuts = cuts }))))))
+    Some (record { name = name; kind = kind; reads = reads; stream = stream; cuts = cuts; weak = weak })))))))
 
 -- a computation
 abbrev pub computation_in : Data → Option ComputationShape

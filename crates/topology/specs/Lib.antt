@@ -1,7 +1,9 @@
 pub mod Shapes
+pub mod Folding
 pub mod Rules
 pub mod Grammar
 pub mod FileRules
 pub mod Samples
 pub mod Kept
 pub mod Answers
+pub mod Ways

@@ -1,5 +1,5 @@
 -- Which shapes are topologies. Own.
-use Rattle.std.specs.Prelude.{ℕ, ◌+◌, ◌≤◌, ◌==◌, ◌&&◌, ◌||◌, not, nat_le, nat_eq, Bool, true, false, IsTrue, List, [], ◌∷◌, ◌++◌, length, map, take, All, Contains, sum_by}
+use Rattle.std.specs.Prelude.{◌≡◌, ℕ, ◌+◌, ◌≤◌, ◌==◌, ◌&&◌, ◌||◌, not, nat_le, nat_eq, Bool, true, false, IsTrue, List, [], ◌∷◌, ◌++◌, length, map, take, All, Contains, sum_by}
 use Rattle.std.specs.Char.{is_ascii_lowercase, is_ascii_digit}
 use Rattle.std.specs.List.{list_any, list_all, range_with_len}
 use Rattle.std.specs.List.Sorted.{IsStrictlySortedBy}
@@ -7,6 +7,8 @@ use Rattle.std.specs.Cmp.Lexicographic.{pointwise}
 use Rattle.mw_types.specs.declared.key.PartCuts.{PartCuts}
 use Rattle.mw_types.specs.Orders.{key_cmp}
 use Rattle.mw_types.specs.Kinds.{IsKind}
+use Rattle.mw_types.specs.declared.kind.Kind.TheVariants.{Pass}
+use Rattle.topology.specs.Folding.{is_foldable}
 use Rattle.topology.specs.Shapes.{Shape, InjectorShape, ComputationShape, Reading, parts_of, streams_of, reads_of, cuts_of}
 
 -- whether a name may have this byte: a lower-case letter, a digit or an underscore
@@ -43,9 +45,14 @@ pub record AreCutKeys (cuts : List (List ℕ)) : Type 0 where
   pub short : All (λ (cut : List ℕ). length cut ≤ 256) cuts
   pub ascending : IsStrictlySortedBy key_cmp cuts
 
+-- a computation is a pass where it is weak
+abbrev pub IsPassWhereWeak : ComputationShape → Type 0
+IsPassWhereWeak c = c.weak ≡ true → c.kind ≡ Pass
+
 -- there are injectors, and at most 16; at most 32 computations, 64 readings and 61 intervals; names are
 -- names and differ, and so are streams; a computation reads something, and only what a part before it
--- publishes; the numbers of kinds are in range, and cuts are cuts
+-- publishes; the numbers of kinds are in range, and cuts are cuts; a weak computation is a pass, what it
+-- publishes is read, and without the weak ones at most 64 readings are left
 pub record IsTopology (shape : Shape) : Type 0 where
   pub some_injector : 1 ≤ length shape.injectors
   pub few_injectors : length shape.injectors ≤ 16
@@ -60,3 +67,5 @@ pub record IsTopology (shape : Shape) : Type 0 where
   pub above : (part : ℕ) → All (λ (r : Reading). Contains (take part (streams_of shape)) r.stream) (reads_of shape part)
   pub kinds : All (λ (c : ComputationShape). IsKind c.kind) shape.computations
   pub cuts : All (λ (c : ComputationShape). AreCutKeys c.cuts) shape.computations
+  pub passes : All IsPassWhereWeak shape.computations
+  pub foldable : IsTrue (is_foldable shape)

@@ -1,5 +1,5 @@
 -- The topology of the first run. Own.
-use Rattle.std.specs.Prelude.{ℕ, [], ◌∷◌, codes}
+use Rattle.std.specs.Prelude.{ℕ, false, [], ◌∷◌, codes}
 use Rattle.mw_types.specs.declared.kind.Kind.TheVariants.{Count}
 use Rattle.topology.specs.declared.subscription.By.TheVariants.{Key}
 use Rattle.topology.specs.Shapes.{Shape, InjectorShape, ComputationShape}
@@ -16,6 +16,7 @@ per_minute_shape size = record {
   reads = record { stream = codes "raw"; by = Key } ∷ [];
   stream = codes "windows";
   cuts = [];
+  weak = false;
 }
 
 -- one injector and one count

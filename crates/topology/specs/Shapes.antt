@@ -1,7 +1,7 @@
 -- What a topology is: its parts, the streams between them, and who reads what.
 -- Akidau et al., VLDB 2013, sections 4.1 to 4.3, for computations, streams and key extraction.
 -- Own: parts have numbers, injectors first, and then the computations in the order of the file.
-use Rattle.std.specs.Prelude.{ℕ, ◌+◌, ◌-◌, ◌==◌, nat_lt, if◌then◌else◌, Bool, List, [], ◌∷◌, ◌++◌, length, map, filter, slice_get, nat_eq, unwrap_or, Option, Some, None}
+use Rattle.std.specs.Prelude.{ℕ, ◌+◌, ◌-◌, ◌==◌, nat_lt, if◌then◌else◌, Bool, false, List, [], ◌∷◌, ◌++◌, length, map, filter, slice_get, nat_eq, unwrap_or, Option, Some, None}
 use Rattle.std.specs.Option.{option_map}
 use Rattle.std.specs.List.{list_any, filter_map, flat_map, enumerate_from, before_first, after_first}
 use Rattle.std.specs.Cmp.Lexicographic.{pointwise}
@@ -20,13 +20,15 @@ pub record InjectorShape : Type 0 where
   pub name : List ℕ
   pub stream : List ℕ
 
--- a computation, with what it reads, the stream that it publishes, and where its intervals of keys begin
+-- a computation, with what it reads, the stream that it publishes, where its intervals of keys begin, and
+-- whether its productions are weak
 pub record ComputationShape : Type 0 where
   pub name : List ℕ
   pub kind : Kind
   pub reads : List Reading
   pub stream : List ℕ
   pub cuts : List (List ℕ)
+  pub weak : Bool
 
 -- a topology, in the order of its file
 pub record Shape : Type 0 where
@@ -67,6 +69,10 @@ reads_of shape part = unwrap_or (option_map (λ (c : ComputationShape). c.reads)
 -- where the intervals of a part begin, but for the first
 abbrev pub cuts_of : Shape → ℕ → List (List ℕ)
 cuts_of shape part = unwrap_or (option_map (λ (c : ComputationShape). c.cuts) (computation_of shape part)) []
+
+-- whether a part is a weak computation
+abbrev pub is_weak : Shape → ℕ → Bool
+is_weak shape part = unwrap_or (option_map (λ (c : ComputationShape). c.weak) (computation_of shape part)) false
 
 -- the subscriptions of one computation, of this number, to a stream
 abbrev pub subscriptions_to : List ℕ → ℕ × ComputationShape → List Subscription

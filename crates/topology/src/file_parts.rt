@@ -15,6 +15,7 @@ pub struct FileComputation {
     pub reads: Seq<ReadingPart>,
     pub stream: Name,
     pub cuts: Seq<Name>,
+    pub weak: bool,
 }
 
 impl Model for FileComputation {
@@ -22,7 +23,14 @@ impl Model for FileComputation {
 
     ghost Value = { ComputationShape };
 
-    ghost view = { λ c. record { name = c.name; kind = c.kind; reads = c.reads; stream = c.stream; cuts = c.cuts } };
+    ghost view = { λ c. record {
+      name = c.name;
+      kind = c.kind;
+      reads = c.reads;
+      stream = c.stream;
+      cuts = c.cuts;
+      weak = c.weak;
+    } };
 }
 
 /// All parts of a file, injectors first.
@@ -136,6 +144,7 @@ fn computation_part(
         reads,
         stream,
         cuts,
+        weak: computation.weak,
     })
 }
 

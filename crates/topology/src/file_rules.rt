@@ -1,5 +1,5 @@
 //! The rules of a topology file, each tried on all of its parts.
-ghost use Rattle.std.specs.Prelude.{◌≡◌, length, sum_by, nat_le, nat_eq, ℕ, List, IfErr, OnOk, Ok};
+ghost use Rattle.std.specs.Prelude.{◌≡◌, length, sum_by, nat_le, nat_eq, ℕ, List, IfErr, OnOk};
 ghost use Rattle.std.specs.Ordering.{is_lt};
 ghost use Rattle.std.specs.List.{list_any, list_all};
 ghost use Rattle.std.specs.Cmp.Lexicographic.{pointwise};
@@ -8,7 +8,7 @@ ghost use Rattle.topology.specs.Shapes.{streams_of};
 ghost use Rattle.topology.specs.Rules.{is_name_byte, is_name, all_differ, names_of};
 ghost use Rattle.topology.specs.Answers.{reading_count, cut_count};
 ghost use Rattle.json_reading.specs.Refusals.{IsRefusalOf};
-ghost use Rattle.topology.specs.FileRules.{is_few, reads_among, reads_above, in_range, is_in_range, is_ascending, is_cut, are_cuts, has_cuts, checked};
+ghost use Rattle.topology.specs.FileRules.{is_few, reads_among, reads_above, in_range, is_in_range, is_ascending, is_cut, are_cuts, has_cuts, woven, checked};
 
 use crate::file_parts::{FileComputation, FileParts};
 use crate::parts::ReadingPart;
@@ -213,7 +213,7 @@ fn broken_rule(file: &FileParts, names: &[Name], streams: &[Name]) -> Result<(),
     requires names { names.now ≡ names_of file.now }
     requires streams { streams.now ≡ streams_of file.now }
 
-    ensures kept { OnOk result (checked file.now ≡ Ok file.now) }
+    ensures kept { OnOk result (checked file.now ≡ woven file.now) }
     ensures broken { IfErr result (λ why. checked file.now ≡ Err why) }
 {
     if !is_few(file) {
@@ -240,9 +240,9 @@ fn broken_rule(file: &FileParts, names: &[Name], streams: &[Name]) -> Result<(),
     Ok(())
 }
 
-/// Tries the rules in their order.
+/// Tries the rules in their order, up to that of weak computations, which is tried as these are left out.
 pub fn check(alloc: Global, file: &FileParts) -> Result<(), TopologyRefusal>
-    ensures kept { OnOk result (checked file.now ≡ Ok file.now) }
+    ensures kept { OnOk result (checked file.now ≡ woven file.now) }
     ensures broken { IfErr result (IsRefusalOf TopologyRefusal.NoMemory (checked file.now)) }
 {
     let names = names_in(alloc, file.injectors(), file.computations())?;

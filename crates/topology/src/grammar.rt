@@ -3,7 +3,7 @@ ghost use Rattle.std.specs.Prelude.{◌≡◌, ◌≤◌, codes, IfSome};
 ghost use Rattle.std.specs.Option.{option_map};
 ghost use Rattle.serde_json.specs.Find.{as_str};
 ghost use Rattle.serde_json.specs.View.{view, items_view};
-ghost use Rattle.topology.specs.Grammar.{and_then, has_members, each_of, list_of, array_in, list_in, some_of, text_in, number_in, injector_in, by_named, reading_in, kind_named, kind_in, reads_in, cuts_in, members_of, computation_in, injectors_in, shape_in, count_kind, spike_kind, computation_of_kind};
+ghost use Rattle.topology.specs.Grammar.{and_then, has_members, each_of, list_of, array_in, list_in, some_of, text_in, number_in, injector_in, by_named, reading_in, kind_named, kind_in, reads_in, cuts_in, stated, weak_stated, stated_weak, weak_in, members_of, computation_in, injectors_in, shape_in, count_kind, spike_kind, computation_of_kind};
 ghost use Rattle.topology.specs.Answers.{Gives};
 
 use crate::file_parts::{FileComputation, FileParts};
@@ -238,11 +238,47 @@ fn members_of(kind: Kind, value: &Value) -> usize
         Kind::Spike { last: _, times: _ } => 2,
         Kind::Pass => 0,
     };
-    let cuts = match value.get("cuts") {
+    4 + numbers + stated(value, "cuts") + weak_stated(kind, value)
+}
+
+// How many members have this name, 1 or none.
+fn stated(value: &Value, name: &str) -> usize
+    ensures { result ≡ stated name.now (view value.now) }
+{
+    match value.get(name) {
         Some(_) => 1,
         None => 0,
-    };
-    4 + numbers + cuts
+    }
+}
+
+// How many members say whether a computation of this kind is weak, which a pass alone may have.
+fn weak_stated(kind: Kind, value: &Value) -> usize
+    ensures { result ≡ weak_stated kind (view value.now) }
+{
+    match kind {
+        Kind::Pass => stated(value, "weak"),
+        _ => 0,
+    }
+}
+
+// Whether a computation of this kind is weak, which a pass alone can be.
+fn weak_in(kind: Kind, value: &Value) -> Option<bool>
+    ensures { result ≡ weak_in kind (view value.now) }
+{
+    match kind {
+        Kind::Pass => stated_weak(value),
+        _ => Some(false),
+    }
+}
+
+// Whether a pass is weak: what its member says, and where it has none it is strong.
+fn stated_weak(value: &Value) -> Option<bool>
+    ensures { result ≡ stated_weak (view value.now) }
+{
+    match value.get("weak") {
+        Some(stated) => stated.as_bool(),
+        None => Some(false),
+    }
 }
 
 // The readings of a computation, of which there is one at least.
@@ -266,6 +302,9 @@ fn computation_of_kind(
     if !has_members(value, members_of(kind, value)) {
         return Err(ShapeRefusal::BadShape);
     }
+    let Some(weak) = weak_in(kind, value) else {
+        return Err(ShapeRefusal::BadShape);
+    };
     let name = name_in(alloc, value, "name")?;
     let reads = reads_in(alloc, value)?;
     let stream = name_in(alloc, value, "stream")?;
@@ -276,6 +315,7 @@ fn computation_of_kind(
         reads,
         stream,
         cuts,
+        weak,
     })
 }
 

@@ -1,6 +1,6 @@
 //! The parts of a topology, as its file states them.
 ghost use Rattle.std.specs.Prelude.{◌≡◌, ◌+◌, ◌<◌, ◌^◌, length, option_copied};
-ghost use Rattle.topology.specs.Shapes.{injectors_of, parts_of, computation_of, reads_of, cuts_of};
+ghost use Rattle.topology.specs.Shapes.{injectors_of, parts_of, computation_of, reads_of, cuts_of, is_weak};
 
 use crate::publishers::Publisher;
 use crate::subscription::By;
@@ -56,7 +56,7 @@ impl Duplicate for InjectorPart {
     }
 }
 
-/// A computation, with what it reads, the stream that it publishes, and its cuts.
+/// A computation, with what it reads, the stream that it publishes, its cuts, and whether it is weak.
 #[derive(Drop)]
 pub struct ComputationPart {
     pub name: Name,
@@ -64,6 +64,7 @@ pub struct ComputationPart {
     pub reads: Seq<ReadingPart>,
     pub stream: Name,
     pub cuts: KeyList,
+    pub weak: bool,
 }
 
 impl Model for ComputationPart {
@@ -71,7 +72,14 @@ impl Model for ComputationPart {
 
     ghost Value = { ComputationShape };
 
-    ghost view = { λ c. record { name = c.name; kind = c.kind; reads = c.reads; stream = c.stream; cuts = c.cuts } };
+    ghost view = { λ c. record {
+      name = c.name;
+      kind = c.kind;
+      reads = c.reads;
+      stream = c.stream;
+      cuts = c.cuts;
+      weak = c.weak;
+    } };
 }
 
 /// All parts, injectors first, in the order of the file.
@@ -152,6 +160,13 @@ impl ComputationPart {
         self.reads.as_slice()
     }
 
+    /// Whether its productions are weak.
+    pub fn weak(&self) -> bool
+        ensures { result ≡ self.now.weak }
+    {
+        self.weak
+    }
+
     /// Where its intervals of keys begin, but for the first.
     pub fn cuts(&self) -> &KeyList
         ensures { result.now ≡ self.now.cuts }
@@ -211,6 +226,17 @@ impl Parts {
         match self.computation(part) {
             Some(computation) => computation.reads(),
             None => &[],
+        }
+    }
+
+    /// Whether a part is a weak computation.
+    pub fn weak(&self, part: u32) -> bool
+        requires { parts_of self.now < 2 ^ 32 }
+        ensures { result ≡ is_weak self.now part }
+    {
+        match self.computation(part) {
+            Some(computation) => computation.weak(),
+            None => false,
         }
     }
 

@@ -6,6 +6,7 @@ ghost use Rattle.topology.specs.Answers.{IsFull};
 
 use crate::file_parts::{FileParts, parts_in};
 use crate::file_rules::check;
+use crate::folding::is_foldable;
 use crate::grammar::shape_in;
 use crate::refusal::{ShapeRefusal, TopologyRefusal};
 use crate::topology::Topology;
@@ -37,7 +38,11 @@ fn topology_in(alloc: Global, file: &FileParts) -> Result<Topology, TopologyRefu
 {
     check(alloc, file)?;
     let parts = parts_in(alloc, file)?;
-    Ok(Topology::of(alloc, parts)?)
+    if is_foldable(alloc, &parts)? {
+        return Ok(Topology::of(alloc, parts)?);
+    }
+    drop(parts);
+    Err(TopologyRefusal::BadWeak)
 }
 
 /// Reads a topology file. Each rule is tried on the whole file before the next.

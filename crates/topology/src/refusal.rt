@@ -22,6 +22,9 @@ pub enum TopologyRefusal {
     BadNumber,
     /// A cut has not 1 to 256 bytes, or the cuts of a computation do not ascend.
     BadCuts,
+    /// No computation reads the stream of a weak one, or more than 64 readings are left without the weak
+    /// ones.
+    BadWeak,
     /// Memory ran out.
     NoMemory,
 }

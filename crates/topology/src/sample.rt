@@ -76,5 +76,6 @@ fn per_minute(alloc: Global, size: u64) -> Result<ComputationPart, NoMemory>
         reads,
         stream,
         cuts: Seq::new(alloc),
+        weak: false,
     })
 }

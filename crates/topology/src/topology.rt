@@ -3,9 +3,11 @@ ghost use Rattle.std.specs.Prelude.{◌≡◌, ◌≤◌, ◌<◌, ◌^◌, IfOk
 ghost use Rattle.std.specs.List.Sorted.{IsStrictlySortedBy};
 ghost use Rattle.std.specs.Ordering.{nat_cmp};
 ghost use Rattle.mw_types.specs.Kinds.{IsKind};
-ghost use Rattle.topology.specs.Shapes.{injectors_of, parts_of, stream_of, kind_of, cuts_of, consumers_of, feeds_of};
+ghost use Rattle.topology.specs.Shapes.{injectors_of, parts_of, stream_of, kind_of, cuts_of, is_weak, consumers_of, feeds_of};
+ghost use Rattle.topology.specs.Folding.{folded, routes_in};
 ghost use Rattle.topology.specs.Rules.{IsTopology, part_cuts_of};
 
+use crate::folding::{Folded, fold_parts};
 use crate::parts::Parts;
 use crate::publishers::streams_in;
 use crate::subscription::Subscription;
@@ -104,6 +106,26 @@ impl Topology {
         ensures ascending { IsStrictlySortedBy nat_cmp result.now }
     {
         self.feeds.as_slice()[part as usize].as_slice()
+    }
+
+    /// Whether a part's productions are weak: such a pass sends a record on before anything is committed for
+    /// it. An injector's are not.
+    pub fn weak(&self, part: u32) -> bool
+        requires { part < parts_of self.now }
+        ensures weak { result ≡ is_weak self.now part }
+    {
+        self.parts.weak(part)
+    }
+
+    /// The topology that a run works on, and the way of its records through what is left out of it.
+    ///
+    /// No weak computation is left: what reads its stream reads, by its own extractor, what that computation
+    /// reads. The parts behind one are counted anew. It refuses for want of memory alone.
+    pub fn fold(&self, alloc: Global) -> Result<Folded, NoMemory>
+        ensures topology { IfOk result (λ made. made.topology ≡ folded self.now) }
+        ensures routes { IfOk result (λ made. made.routes ≡ routes_in self.now) }
+    {
+        fold_parts(alloc, &self.parts)
     }
 
     /// Where the intervals of a part begin, but for the first.

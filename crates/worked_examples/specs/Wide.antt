@@ -52,6 +52,7 @@ count_shape = record {
   reads = record { stream = codes "lefts"; by = Key } ∷ record { stream = codes "rights"; by = Head } ∷ [];
   stream = codes "windows";
   cuts = key_h ∷ [];
+  weak = false;
 }
 
 -- the spike: a total is produced where it is above the one before it
@@ -62,6 +63,7 @@ spike_shape = record {
   reads = record { stream = codes "windows"; by = Key } ∷ record { stream = codes "windows"; by = Tail } ∷ [];
   stream = codes "alerts";
   cuts = [];
+  weak = false;
 }
 
 -- the parts: the injectors are 0 and 1, the count is 2 and the spike 3
