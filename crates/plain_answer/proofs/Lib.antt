@@ -41,3 +41,9 @@ pub mod Shards
 pub mod KindShards
 pub mod TextShards
 pub mod Cuts
+pub mod StreamNames
+pub mod StillRead
+pub mod NamedReads
+pub mod NamedLines
+pub mod WeakPasses
+pub mod PlainPasses

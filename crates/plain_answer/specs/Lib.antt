@@ -9,3 +9,4 @@ pub mod Tallies
 pub mod Sends
 pub mod Spiked
 pub mod Splits
+pub mod Passes
