@@ -44,4 +44,6 @@ pub mod Cuts
 pub mod StreamNames
 pub mod StillRead
 pub mod NamedReads
+pub mod NamedLines
 pub mod WeakPasses
+pub mod PlainPasses

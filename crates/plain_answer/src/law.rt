@@ -1,4 +1,4 @@
-//! The text of a finished run, and of the shards of a case.
+//! The text of a finished run, of the shards of a case, and of a case without its weak computations.
 ghost use Rattle.std.specs.Prelude.{ℕ, ◌<◌, List, ◌≡◌, length, sum_by};
 ghost use Rattle.std.specs.List.{flat_map, range_with_len};
 ghost use Rattle.std.specs.List.Sorted.{IsPermutation};
@@ -6,14 +6,14 @@ ghost use Rattle.mw_types.specs.declared.entry.Entry.{Entry};
 ghost use Rattle.mw_types.specs.declared.kind.Kind.{Kind};
 ghost use Rattle.topology.specs.declared.subscription.By.TheVariants.{Head, Tail};
 ghost use Rattle.topology.specs.Shapes.{Shape, extracted};
+ghost use Rattle.topology.specs.Rules.{IsTopology};
 ghost use Rattle.run_history.specs.Cases.{CaseShape};
 ghost use Rattle.run_history.specs.Inputs.{IsRunnable};
 ghost use Rattle.run_history.specs.Texts.{IsResultText};
 ghost use Rattle.plain_answer.specs.Ends.{IsFinishedRun};
 ghost use Rattle.plain_answer.specs.Plain.{Keyed, plain_of, fires_of, fired_of, handled_of, injected_count, late_count, plain_lines, IsPlainText};
-ghost use Rattle.topology.specs.Rules.{IsTopology};
-ghost use Rattle.plain_answer.specs.Passes.{with_passes, without_weak, HasLinesOf};
 ghost use Rattle.plain_answer.specs.Splits.{Split, reads_in, FollowsReadings, IsUnread, behind_last, AreShards, IsMergedText};
+ghost use Rattle.plain_answer.specs.Passes.{with_passes, without_weak, HasLinesOf};
 
 /// The result text of a run that is at its end is the plain count of its files, whatever the order
 /// of its entries was, and whoever wrote them.
@@ -82,8 +82,9 @@ pub fn cuts_follow_readings()
         IsUnread shape Head → FollowsReadings shape (λ key. split (behind_last key)) }
 {}
 
-/// A weak pass is seen through: the lines of a case without its weak computations are those of the case
-/// with plain passes in their place. The summary line alone tells them apart.
+/// A weak computation leaves no mark on the plain text but in its summary: without the weak ones a
+/// case has the lines that it has where plain passes stand in their place. The two summaries differ,
+/// since what a plain pass handles is counted. For any topology that a file may state.
 pub fn weak_passes_are_seen_through()
     ensures lines { (case : CaseShape) → IsTopology case.topology →
         IsPermutation (plain_lines (with_passes case)) (plain_lines (without_weak case)) }

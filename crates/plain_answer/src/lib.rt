@@ -5,11 +5,13 @@
 //! `history_laws`. Public contract: the result text of every legal and finished history of a case
 //! is the plain count of the case, in whatever order its entries came, so that two such histories
 //! of a case have one text; `plain_text` writes that text from the files alone; `windows_of`
-//! computes what a count gives; and a plain count splits, of one part by the rows that read, and of
-//! a case by what is the same of a key and of all that is extracted of it. Definitions:
+//! computes what a count gives; a plain count splits, of one part by the rows that read, and of a
+//! case by what is the same of a key and of all that is extracted of it; and a case without its
+//! weak computations has the lines that it has with plain passes in their place. Definitions:
 //! `specs/Plain.antt`, which is to be read from the top, `specs/Ends.antt`, when a run is at its
-//! end, `specs/Splits.antt`, what a shard is, and `specs/Rows.antt`, with cases that were worked by
-//! hand; no public clause cites the other files of `specs/`.
+//! end, `specs/Splits.antt`, what a shard is, `specs/Passes.antt`, which cases stand for one with
+//! weak computations, and `specs/Rows.antt`, with cases that were worked by hand; no public clause
+//! cites the other files of `specs/`.
 #![tactic(auto)]
 
 mod examples;
