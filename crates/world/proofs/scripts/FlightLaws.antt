@@ -21,13 +21,9 @@ use Rattle.world.specs.scripts.Worlds.{World, in_flight}
 use Rattle.plans.specs.declared.step.Step.TheVariants as steps
 use Rattle.world.specs.scripts.Standing.{IsFlying}
 use Rattle.world.specs.scripts.WorkerCalls.{FliesOn}
-use Rattle.world.specs.scripts.WorldStates.{flight_of}
+use Rattle.world.specs.scripts.WorldStates.{flight_of, noteless}
 
 -- ---- what stands under a number
-
--- a place without its note
-abbrev pub noteless : Option (Message NoNote) → Option Outgoing
-noteless m = option_map (λ (message : Message NoNote). outgoing_of message) m
 
 -- what is in flight under a number, without its note
 pub flight-at : (flight : List (Option (Message NoNote))) (number : ℕ)

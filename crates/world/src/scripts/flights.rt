@@ -9,7 +9,7 @@ ghost use Rattle.world.specs.scripts.Acts.{without_message};
 ghost use Rattle.world.specs.scripts.Worlds.{in_flight};
 ghost use Rattle.world.specs.scripts.Standing.{FitsOwn, IsFlying};
 ghost use Rattle.world.specs.scripts.Stepping.{NamesNone};
-ghost use Rattle.world.specs.scripts.WorkerCalls.{FliesOn, HasCalled, IsSending, SendsOn};
+ghost use Rattle.world.specs.scripts.WorkerCalls.{CopiesOn, FliesOn, HasCalled, HasCopied, HasSent, IsSending, SendsOn};
 ghost use Rattle.world.specs.scripts.WorldStates.{flight_of};
 
 use book::{Book, NoNote, OwnDesk};
@@ -37,6 +37,7 @@ pub(crate) fn take_out(flight: &mut Flight, message: u32) -> Message<NoNote>
     requires there { IsSome (unwrap_or (slice_get flight.old.items message) None) }
     ensures taken { unwrap_or (slice_get flight.old.items message) None ≡ Some result }
     ensures gone { flight.new.items ≡ slice_set flight.old.items message None }
+    ensures room { vec_capacity flight.new ≡ vec_capacity flight.old }
 {
     flight[message as usize].take().unwrap()
 }
@@ -72,6 +73,8 @@ pub(crate) fn send<'a, K: Keeper>(
     ensures acted { IfOk result (SendsOn book.old node.old (flight_of flight.old.items)
         book.new node.new (flight_of flight.new.items)) }
     ensures cause { IfOk result NamesNone }
+    ensures sent { HasSent (length node.old.outbox)
+        (flight_of flight.old.items) (flight_of flight.new.items) }
     ensures few { length flight.new.items ≤ 2 ^ 32 }
     ensures flying { All (IsFlying book.new) (flight_of flight.new.items) }
     ensures unsent { OnErr result (book.new ≡ book.old) }
@@ -131,9 +134,11 @@ fn send_first<'a, K: Keeper>(
 // A message comes once more, if it is in flight and there is a number for it.
 pub(crate) fn repeat(alloc: Global, flight: &mut Flight, message: u32) -> Result<Outcome, NodeFault>
     requires few { length flight.old.items ≤ 2 ^ 32 }
-    ensures acted { IfOk result (FliesOn (Step.Repeat message)
+    ensures acted { IfOk result (CopiesOn message
         (flight_of flight.old.items) (flight_of flight.new.items)) }
     ensures cause { IfOk result NamesNone }
+    ensures copied { HasCopied message
+        (flight_of flight.old.items) (flight_of flight.new.items) }
     ensures few { length flight.new.items ≤ 2 ^ 32 }
     ensures flying { (book : BookView) → All (IsFlying book) (flight_of flight.old.items) →
         All (IsFlying book) (flight_of flight.new.items) }
