@@ -1,8 +1,9 @@
 #!/usr/bin/env python3
-"""Builds the libraries of a clone, several at a time, and gives another clone those that are of the same sources.
+"""Builds the libraries of a clone, several at a time, and gives a clone those of the same sources that are there already.
 
     tools/kept-libraries.py build CLONE [--at-once N] [CRATE ..]
     tools/kept-libraries.py give FROM TO [CRATE ..]
+    tools/kept-libraries.py take CLONE
 
 `rt check` of a crate wants the library of each crate below, and builds one after the other what is not there. `build`
 proves and builds those of CLONE beforehand, the lowest first and N at a time (by itself as many as processors and memory
@@ -16,14 +17,21 @@ crate where another stands:
 
     git clone -q main other && main/tools/kept-libraries.py give main other book
 
-`rt ci` takes nothing from these libraries: it proves all from nothing.
+`rt ci` takes nothing from these libraries: it proves all from nothing. What it proved it keeps on this machine, the
+libraries too, and `take` gives a clone those of its sources, each where all below it are there. So what the gate has
+proved is proved once and not twice:
+
+    RT_JOBS=3 rt ci node && tools/kept-libraries.py take ../other && cd ../other/crates/node && rt check
 """
+import importlib.machinery
+import importlib.util
 import os
 import shutil
 import subprocess
 import sys
 import threading
 import time
+import types
 from concurrent.futures import FIRST_COMPLETED, Future, ThreadPoolExecutor, wait
 
 # The toolchain's own account of crates, which lies beside `rt`.
@@ -34,6 +42,8 @@ import rtlib  # noqa: E402
 # What the largest libraries take of memory while they are proved, in kB.
 LARGEST = 6_500_000
 STAMP = "out/rlib/stamp"
+# Under what sum `rt ci` keeps the library that was taken.
+TAKEN = "out/rlib/taken"
 READ = threading.local()
 STAMP_OF = rtlib.Crate.stamp
 
@@ -196,6 +206,47 @@ def give(source: str, to: str, names: list[str]) -> int:
     return 1 if lost else 0
 
 
+def gate() -> types.ModuleType:
+    """The toolchain's `rt`, which knows what `rt ci` kept on this machine."""
+    loader = importlib.machinery.SourceFileLoader("rt_command", os.path.realpath(shutil.which("rt")))
+    made = importlib.util.module_from_spec(importlib.util.spec_from_loader("rt_command", loader))
+    sys.modules["rt_command"] = made
+    loader.exec_module(made)
+    return made
+
+
+def take_one(kept: object, crate: rtlib.Crate) -> bool:
+    """Gives a crate the library that `rt ci` kept of it over the libraries that are there, and tells whether it could."""
+    key, stamp, room = kept.key(crate), crate.stamp(), f"{crate.folder}/out/rlib"
+    if rtlib.text_of(f"{crate.folder}/{TAKEN}") != key or rtlib.text_of(f"{crate.folder}/{STAMP}") != stamp:
+        if not os.path.isdir(kept.place(crate, False, key)):
+            return False
+        shutil.rmtree(room, ignore_errors=True)
+        if not kept.give(crate, False, key):
+            return False
+        for name, text in ((TAKEN, key), (STAMP, stamp)):
+            with open(f"{crate.folder}/{name}", "w", encoding="utf-8") as out:
+                out.write(text)
+    # The sum of those above reads this library.
+    kept.is_built(crate)
+    return True
+
+
+def take(clone: str) -> int:
+    """Gives a clone the libraries that `rt ci` kept of its sources, and tells which."""
+    rt = gate()
+    os.chdir(clone)
+    rt.Crate.allowed = rt.handles_of(os.getcwd())
+    crates = [crate for crate in rt.crates_of(os.getcwd()) if not crate.is_program]
+    kept, there = rt.Kept(crates), []
+    for crate in crates:
+        if all(below.name in there for below in crate.below()) and take_one(kept, crate):
+            there.append(crate.name)
+    print(f"{len(there)} libraries are there: {', '.join(there) or 'none'}")
+    print(f"not kept: {', '.join(crate.name for crate in crates if crate.name not in there) or 'none'}")
+    return 0
+
+
 def main() -> None:
     words = sys.argv[1:]
     rtlib.Crate.stamp = stamp_once
@@ -205,6 +256,8 @@ def main() -> None:
         sys.exit(build(words[1], words[2:]))
     elif words[:1] == ["give"] and len(words) >= 3:
         sys.exit(give(words[1], words[2], words[3:]))
+    elif words[:1] == ["take"] and len(words) == 2:
+        sys.exit(take(words[1]))
     else:
         sys.exit(__doc__)
 

@@ -23,3 +23,4 @@ pub mod Begun
 pub mod PutMarks
 pub mod Sending
 pub mod Settlements
+pub mod Stores

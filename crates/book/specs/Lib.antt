@@ -10,6 +10,7 @@ pub mod Desks
 pub mod Desking
 pub mod DeskReasons
 pub mod OwnDesks
+pub mod Storing
 pub mod Appending
 pub mod Sending
 pub mod Refusing

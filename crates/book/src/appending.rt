@@ -215,6 +215,8 @@ impl<'a, K: Keeper> Book<'a, K> {
         requires next { let left = left_row settled row.now in
             IsNext self.old.case (core_of self.old) name.now entry left }
         requires below { IfSome settled (λ s. s.commit < 2 ^ 32) }
+        requires was { let old = self.old in
+            IfSome settled (λ _. IsRowOf old.case old.rows old.history name.now row.now) }
         requires sent { sent ≡ sent_by self.old.case.topology self.old.history entry }
         requires left { LeavesWork self.old name.now (left_row settled row.now) left }
         ensures appended { OnOk result (self.new.history ≡ self.old.history ++ entry ∷ []) }

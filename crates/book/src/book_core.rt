@@ -12,10 +12,12 @@ ghost use Rattle.book.specs.Senders.{sender_of};
 ghost use Rattle.std.specs.BTreeMap.{get};
 ghost use Rattle.std.specs.Ordering.{nat_cmp};
 ghost use Rattle.book.specs.Appending.{KnowsClaims, left_row};
+ghost use Rattle.book.specs.Storing.{AreBytesOf, HaveShorter, grown_by};
 ghost use Rattle.book.specs.Sending.{HasSent, IsAfterEntry, IsLeastKnown, IsUnsent, KnowsSame};
 
 use crate::sender_map::{Senders, forget_sent, note_sent, settle, settled_by};
-use crate::settling::{Settled, spell};
+use crate::settling::Settled;
+use crate::storing::{grown_by, store};
 use mw_types::{Entry, NoMemory, RecordId, RowName};
 use row_keeper::{Keeper, KeeperFault};
 use row_parts::Row;
@@ -23,7 +25,6 @@ use run_history::History;
 use std::alloc::Global;
 use std::collections::BTreeMap;
 use std::marker::Model;
-use std::mem::replace;
 
 /// The history, the keeper, how many entries there may be, the last sequencer of each interval, how
 /// much work is left, the unacknowledged ids, and the marks.
@@ -87,6 +88,10 @@ impl<K: Keeper> Core<K> {
         sent: u32,
     ) -> Result<(), KeeperFault>
         requires below { IfSome settled (λ s. s.commit < 2 ^ 32) }
+        requires held { IfSome settled
+            (λ _. IfSome self.old.rows (AreBytesOf name.now row.now)) }
+        requires shorter { IfSome (grown_by settled entry sent)
+            (λ sent. IfSome self.old.rows (HaveShorter name.now sent row.now)) }
         requires on_row { row_written entry ≡ Some name.now }
         requires unsent { IsUnsent (length self.old.history) self.old.unacknowledged }
         ensures appended { OnOk result (self.new.history ≡ self.old.history ++ entry ∷ []) }
@@ -107,6 +112,7 @@ impl<K: Keeper> Core<K> {
     {
         let commit = self.history.len() as u64;
         let acknowledged = settled_by(&entry);
+        let grown = grown_by(settled, &entry, sent);
         note(
             alloc,
             &mut self.history,
@@ -122,6 +128,7 @@ impl<K: Keeper> Core<K> {
             name,
             row,
             settled,
+            grown,
         ) {
             forget_sent(&mut self.unacknowledged, commit, sent);
             forget_last(&mut self.history);
@@ -214,29 +221,6 @@ fn forget_last(history: &mut History)
     ensures { history.new ≡ take (length history.old - 1) history.old }
 {
     drop(history.pop());
-}
-
-// Stores the bytes of a row, or of what it is once an id is settled, made in a buffer that is used again.
-fn store<K: Keeper>(
-    alloc: Global,
-    keeper: &mut K,
-    buffer: &mut Vec<u8>,
-    name: &RowName,
-    row: &Row,
-    settled: Option<Settled>,
-) -> Result<(), KeeperFault>
-    requires below { IfSome settled (λ s. s.commit < 2 ^ 32) }
-    ensures stored { let bytes = spelling_of (left_row settled row.now) in
-        OnOk result (K.rows keeper.new ≡ option_map (with_row name.now bytes) (K.rows keeper.old)) }
-    ensures own { OnOk result (IsSpelledRow (left_row settled row.now)) }
-    ensures unchanged { OnErr result (K.rows keeper.new ≡ K.rows keeper.old) }
-    ensures failed { HasCause (K.faults keeper.old) (K.faults keeper.new)
-        result KeeperFault.Failed }
-{
-    let bytes = spell(replace(buffer, Vec::new(alloc)), row, settled)?;
-    keeper.put(alloc, name, bytes.as_slice())?;
-    *buffer = bytes.into_vec();
-    Ok(())
 }
 
 // Appends a claim to a history, and notes that it is the last of its interval.

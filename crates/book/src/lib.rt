@@ -30,6 +30,7 @@ mod reports;
 mod rows;
 mod sender_map;
 mod settling;
+mod storing;
 mod work_left;
 mod writes;
 

@@ -43,18 +43,26 @@ fn spell_settled(buffer: Vec<u8>, row: &Row, settled: Settled) -> Result<Bytes, 
         })) }
 {
     row.sound();
-    let (front, behind) = parted(row.pending.as_slice(), settled.id);
+    let (front, _, behind) = parted(row.pending.as_slice(), settled.id);
     encode_sending(buffer, row, settled.commit, front, behind)
 }
 
-// The deliveries before the one with this id, and those behind it.
-fn parted(deliveries: &[Delivery], id: RecordId) -> (&[Delivery], &[Delivery])
+// The deliveries before the one with this id, that one alone, and those behind it.
+pub(crate) fn parted(
+    deliveries: &[Delivery],
+    id: RecordId,
+) -> (&[Delivery], &[Delivery], &[Delivery])
     requires { ArePending deliveries.now }
-    ensures { result.0.now ++ result.1.now ≡ without_delivery id deliveries.now }
+    ensures left { result.0.now ++ result.2.now ≡ without_delivery id deliveries.now }
+    ensures whole { deliveries.now ≡ result.0.now ++ (result.1.now ++ result.2.now) }
 {
     match place_of(deliveries, id) {
-        Ok(at) => (&deliveries[..at], &deliveries[at + 1..]),
-        Err(_) => (deliveries, &[]),
+        Ok(at) => (
+            &deliveries[..at],
+            &deliveries[at..at + 1],
+            &deliveries[at + 1..],
+        ),
+        Err(_) => (deliveries, &[], &[]),
     }
 }
 

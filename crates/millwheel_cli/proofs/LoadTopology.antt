@@ -1,5 +1,5 @@
 -- The topology of load is taken.
-use Rattle.std.proofs.Common.{◌≡◌, ◌∙◌, [], ◌∷◌, Ok, Err, Some, refl, codes, ap}
+use Rattle.std.proofs.Common.{◌≡◌, ◌∙◌, false, [], ◌∷◌, Ok, Err, Some, refl, codes, ap}
 use Rattle.std.specs.Option.{option_map_or}
 use Rattle.json.proofs.Printed.Utf8.{IsUtf8-are_ascii}
 use Rattle.serde_json.specs.Data.{Data, object, member, no_members, array, item, no_items, string, number, unsigned}

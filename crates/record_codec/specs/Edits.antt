@@ -1,5 +1,5 @@
 -- What of a row's bytes an edit changes: those before its deliveries, and some of its deliveries. Own.
-use Rattle.std.specs.Prelude.{◌++◌, ℕ, List, [], ◌∷◌}
+use Rattle.std.specs.Prelude.{ℕ, List, [], ◌∷◌}
 use Rattle.std.specs.List.{concat, flat_map}
 use Rattle.std.specs.Int.{w32, w64, to_be_bytes}
 use Rattle.mw_types.specs.declared.delivery.Delivery.{Delivery}

@@ -5,6 +5,7 @@ ghost use Rattle.row_parts.specs.Contents.{IsRow};
 ghost use Rattle.row_parts.specs.Spelling.{DeliveryFits, FitsBytes, IsSpelledRow, spelling_of};
 ghost use Rattle.record_codec.specs.Edits.{deliveries_spelling, head_spelling, row_sending};
 
+use crate::lengths::have_spellings;
 use mw_types::{Bytes, Delivery, NoMemory};
 use row_parts::{Row, Spelled, put_in_fours, put_state};
 use std::alloc::Global;
@@ -60,6 +61,41 @@ pub fn encode_sending(
     put_deliveries(&mut out, behind)?;
     put_in_fours(&mut out, row.seen.as_slice())?;
     Ok(Bytes::from_vec(out))
+}
+
+/// What changes in the bytes of a row with this last entry and the deliveries of all three lists, of which
+/// the second is new: the bytes before the deliveries and those of the new ones, and how many the former are.
+/// They are in the memory of a buffer that is used no more.
+pub fn encode_edit(
+    buffer: Vec<u8>,
+    row: &Row,
+    last: u64,
+    front: &[Delivery],
+    new: &[Delivery],
+    behind: &[Delivery],
+) -> Result<(usize, Bytes), NoMemory>
+    requires { IsRow (row_sending last (front.now ++ (new.now ++ behind.now)) row.now) }
+    ensures head { let count = length (front.now ++ (new.now ++ behind.now)) in
+        IfOk result (λ e. e.0 ≡ length (head_spelling last count row.now)) }
+    ensures spelled { let count = length (front.now ++ (new.now ++ behind.now)) in
+        IfOk result (λ e. e.1 ≡ head_spelling last count row.now ++ deliveries_spelling new.now) }
+    ensures own { let pending = front.now ++ (new.now ++ behind.now) in
+        OnOk result (IsSpelledRow (row_sending last pending row.now)) }
+{
+    let mut out = buffer;
+    out.clear();
+    out.reserve(ROOM)?;
+    put_head(
+        &mut out,
+        row,
+        last,
+        front.len() + (new.len() + behind.len()),
+    )?;
+    let head = out.len();
+    put_deliveries(&mut out, new)?;
+    have_spellings(front);
+    have_spellings(behind);
+    Ok((head, Bytes::from_vec(out)))
 }
 
 // Appends the bytes of a row before its deliveries, with this last entry and so many deliveries.

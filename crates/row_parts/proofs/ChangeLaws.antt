@@ -85,11 +85,6 @@ deliveries_appended ds more new are keys ids stamps sorted room written = subst 
   few = rw (length-append ds more) room;
 })
 
--- nothing is pending
-pub none_pending : ArePending []
-unfolding IsStrictlySortedBy
-none_pending = record { ascending = tt; each = λ i d h. absurd (omega arith); few = omega arith }
-
 -- what a timer stays that is set again
 pub again_same : (new old : Timer) → new.late || not old.late ≡ true → set_again new old ≡ old
 again_same new old is = ap (λ (b : Bool). record { tag = old.tag; time = old.time; late = b }) (by new.late old.late is)

@@ -1,5 +1,5 @@
 //! The deliveries that a row waits for: adding one and settling one.
-ghost use Rattle.std.specs.Prelude.{◌≡◌, ◌≤◌, ◌++◌, ◌∷◌, [], All, IfOk, IsTrue, OnOk, OnErr, take};
+ghost use Rattle.std.specs.Prelude.{◌≡◌, ◌≤◌, ◌++◌, ◌∷◌, [], All, OnOk, OnErr, take};
 ghost use Rattle.std.specs.List.{list_any};
 ghost use Rattle.std.specs.List.Sorted.{IsStrictlySortedBy};
 ghost use Rattle.std.specs.Option.{is_some};
@@ -7,7 +7,7 @@ ghost use Rattle.std.specs.declared.cmp.Ordering.TheVariants.{Less};
 ghost use Rattle.row_parts.specs.Contents.{ArePending, IsId, IsKey, delivery_cmp, found_delivery, same_id, without_delivery};
 
 use crate::places::{delivery_place, room, room_for};
-use mw_types::{Delivery, DeliveryList, Duplicate, Key, MAX_STAMP, NoMemory, RecordId};
+use mw_types::{Delivery, DeliveryList, Key, MAX_STAMP, NoMemory, RecordId};
 use std::alloc::Global;
 use std::mem::replace;
 
@@ -105,34 +105,6 @@ pub fn keep_first(alloc: Global, deliveries: &mut DeliveryList, count: usize)
     let mut own = replace(deliveries, DeliveryList::new(alloc)).into_vec();
     own.truncate(count);
     *deliveries = DeliveryList::from_vec(own);
-}
-
-/// Copies of these but for the one with this id. A list of that one alone has none, which takes no memory.
-pub fn deliveries_but(
-    alloc: Global,
-    deliveries: &DeliveryList,
-    id: RecordId,
-) -> Result<DeliveryList, NoMemory>
-    requires { ArePending deliveries.now }
-    ensures rest { IfOk result (λ rest. rest ≡ without_delivery id deliveries.now) }
-    ensures deliveries { IfOk result ArePending }
-{
-    if is_alone(deliveries.as_slice(), id) {
-        return Ok(DeliveryList::new(alloc));
-    }
-    let mut rest = deliveries.copy(alloc)?;
-    take_delivery(&mut rest, id);
-    Ok(rest)
-}
-
-// Whether the delivery of this id is there and no other is.
-fn is_alone(deliveries: &[Delivery], id: RecordId) -> bool
-    ensures { IsTrue result → without_delivery id deliveries.now ≡ [] }
-{
-    match deliveries {
-        [only] => only.id == id,
-        _ => false,
-    }
 }
 
 /// Takes the delivery with this id away, and tells whether it was there.

@@ -22,7 +22,6 @@ mod timers;
 mod words;
 
 pub use changes::{Moves, Parts};
-pub use deliveries::deliveries_but;
 pub use ids::forget_below;
 pub use lists::{InFours, Ranked, put_in_fours, put_list, take_ascending, take_list};
 pub use refusal::StateRefusal;

@@ -5,8 +5,8 @@
 //! each with a pass of its own. A turn of work goes by steps: marks that others have reported are loaded,
 //! what is prepared is written, messages are sent and taken, timers fire, lines are injected, ids are
 //! forgotten and own work is reported, each tried until nobody else has the turn to append. A round is one
-//! turn of work of each worker, all at once, in as many threads as there are processors, and a plan says what
-//! happens to workers between and in the rounds. Stands on `node`, `shared_book`, `plans` and the kit's
+//! turn of work of each worker, in two threads beside each other, and a plan says what happens to workers
+//! between and in the rounds. Stands on `node`, `shared_book`, `plans` and the kit's
 //! `crossbeam_queue`. Public contract: what is taken from a mailbox is of its office, as what was put is;
 //! `slice` appends so many entries at most, none of them a claim, loses a lease only to another, and fails
 //! only for its cause, and each injector that it had has exactly 16 lines more, or all that were left; after

@@ -17,19 +17,12 @@ use std::sync::Wait;
 use std::thread;
 use std::thread::Threads;
 
-// How many threads are to run beside each other: one on each processor, since more would only wait for each
-// other, but two at least, so that one worker may wait for another. It reads files, so it is asked once a run.
-pub(crate) fn threads_beside<R: Threads>(rt: &R) -> usize
-    ensures some { 0 < result }
-{
-    match thread::available_parallelism(rt) {
-        Ok(count) => count.get().max(2),
-        // There are no more workers.
-        Err(_) => 16,
-    }
-}
+// How many threads run beside each other: two, so that one worker may wait for another. What most of a turn of work
+// is done in, the turn to append, one thread has at a time, so more threads would only wait, and the book would go
+// from processor to processor.
+const BESIDE: usize = 2;
 
-// Each worker does its turn of work, in so many threads at most.
+// Each worker does its turn of work.
 fn each_works<R, K, C, G, J>(
     rt: &R,
     alloc: Global,
@@ -39,7 +32,6 @@ fn each_works<R, K, C, G, J>(
     boxes: &[Mailbox<Note<K>, J>],
     gate: &G,
     crew: &mut [Worker<K, J>],
-    threads: usize,
 )
 where
     R: Threads + Wait + Sync,
@@ -49,7 +41,6 @@ where
     J: Office + Send + Sync,
     requires case { shared.now.case.now ≡ case.now }
     requires some { 0 < length crew.old }
-    requires threads { 0 < threads }
     requires workers { All (IsWorker shared.now.table.shared.table_id case.now) crew.old }
     requires work { IsWorkOf case.now.topology (C.has work.now)
         (C.gives_record work.now) (C.gives_timer work.now) }
@@ -60,11 +51,10 @@ where
     ensures worked { HaveWorked shared.now.table.shared.table_id case.now boxes.now
         crew.old crew.new }
 {
-    let most = threads.min(crew.len());
     thread::for_each_mut(
         rt,
         crew,
-        most,
+        BESIDE,
         &|_, worker: &mut Worker<K, J>|
             requires case { shared.now.case.now ≡ case.now }
             requires worker { IsWorker shared.now.table.shared.table_id case.now worker.old }
@@ -89,7 +79,6 @@ pub(crate) fn one_round<R, K, C, G, J>(
     boxes: &[Mailbox<Note<K>, J>],
     gate: &G,
     crew: &mut [Worker<K, J>],
-    threads: usize,
 )
 where
     R: Threads + Wait + Sync,
@@ -99,7 +88,6 @@ where
     J: Office + Send + Sync,
     requires case { shared.now.case.now ≡ case.now }
     requires some { 0 < length crew.old }
-    requires threads { 0 < threads }
     requires workers { AreWorkers shared.now.table.shared.table_id case.now crew.old }
     requires work { IsWorkOf case.now.topology (C.has work.now)
         (C.gives_record work.now) (C.gives_timer work.now) }
@@ -114,7 +102,7 @@ where
         crew.old crew.new }
     ensures passes { AllHavePasses case.now boxes.now crew.new }
 {
-    each_works(rt, alloc, shared, case, work, boxes, gate, crew, threads);
+    each_works(rt, alloc, shared, case, work, boxes, gate, crew);
 }
 
 // Whether a worker has a fault.

@@ -26,7 +26,7 @@ use crate::ended::Rounds;
 use crate::joining::join_all;
 use crate::mailbox::Mailbox;
 use crate::office::Office;
-use crate::rounding::{has_fault, one_round, threads_beside};
+use crate::rounding::{has_fault, one_round};
 use book::Book;
 use computations::Computation;
 use mw_ports::Gate;
@@ -40,8 +40,8 @@ use std::marker::Brand;
 use std::sync::Wait;
 use std::thread::Threads;
 
-/// Shares a book among so many workers, has them claim all intervals and do so many rounds of work, all workers at
-/// once in as many threads as there are processors, and two at least, and closes the book.
+/// Shares a book among so many workers, has them claim all intervals and do so many rounds of work, in two threads
+/// beside each other, and closes the book.
 ///
 /// Interval i is first claimed by worker i mod `workers`. Before each round what a plan says of it is done, in the
 /// order of its lines: what a worker held that crashes, or that stalled in the round before, is claimed by the next
@@ -226,12 +226,11 @@ where
     if !claim_all(rt, alloc, shared, case, crew) {
         return;
     }
-    let threads = threads_beside(rt);
     for round in 0..rounds {
         if !prepare(rt, alloc, shared, case, crew, actions, round) {
             return;
         }
-        one_round(rt, alloc, shared, case, work, boxes, gate, crew, threads);
+        one_round(rt, alloc, shared, case, work, boxes, gate, crew);
         if has_fault(crew) {
             return;
         }

@@ -4,16 +4,21 @@ use std::sync::atomic::AtomicU64;
 use std::thread;
 use std::time::Duration;
 
-// How often a worker that finds the turn taken lets others run before it sleeps, and how long it sleeps then, in
-// microseconds. Turns take some microseconds, and a try that finds another's turn brings the book's word to its
-// processor: so who tries without end keeps the others from their work.
+// How often a worker that finds the turn taken tries again at once, and how often it then lets others run, before it
+// sleeps, and how long it sleeps, in microseconds. A turn takes some microseconds, about as long as the tries.
+const TRIES: u32 = 40;
+
 const YIELDS: u32 = 2;
 
 const SLEEP: u64 = 100;
 
-// Lets others run who want the processor, and sleeps where that was done often enough. Answers how often it was.
+// Waits before the next try: at first not at all, then for others who want the processor, and then asleep. Answers
+// how often it waited.
 pub(crate) fn wait<R: Wait>(rt: &R, waited: u32) -> u32 {
-    if waited < YIELDS {
+    if waited < TRIES {
+        return waited + 1;
+    }
+    if waited < TRIES + YIELDS {
         thread::yield_now();
         return waited + 1;
     }

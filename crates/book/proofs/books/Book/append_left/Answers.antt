@@ -1,11 +1,14 @@
-use Rattle.std.proofs.Common.{◌≡◌, List, subst, sym, ◌∙◌}
+use Rattle.std.proofs.Common.{◌≡◌, ◌++◌, ◌∷◌, [], List, subst, sym, ◌∙◌}
+use Rattle.std.specs.Prelude.{IfSome}
 use Rattle.run_history.specs.Runs.{run_of}
 use Rattle.mw_types.specs.declared.entry.Entry.{Entry}
 use Rattle.book.specs.Books.{BookView, core_of}
 use Rattle.book.specs.Appending.{IsNext, LeavesWork, left_row, sent_by}
+use Rattle.book.specs.Conditions.{IsRowOf}
 use Rattle.book.specs.Senders.{AreSenders}
 use Rattle.book.proofs.Keeping.{IsLawful-next, IsLawful-stays}
 use Rattle.book.proofs.SenderSteps.{senders-next, senders-unsent}
+use Rattle.book.proofs.Stores.{grown-held, settled-held}
 use Rattle.book.proofs.books.Book.append_left.Goals.{in-Ok, in-Err}
 use Rattle.book.proofs.books.Book.append_left.Goals as goal
 
@@ -44,3 +47,20 @@ invariant_of-self g c =
 pub append-requires-clause-unsent : goal.append-requires-clause-unsent
 append-requires-clause-unsent g c =
     senders-unsent c.self.inside.case.now.topology c.self.inside.core.history c.self.inside.core.unacknowledged c.self.invariant.senders
+
+-- the keeper has the bytes of the row in which an id is settled
+pub append-requires-clause-held : goal.append-requires-clause-held
+append-requires-clause-held g c =
+    settled-held c.args.settled c.self.inside.case.now c.self.inside.core.history c.self.inside.core.rows c.args.name.now c.args.row.now
+    c.self.invariant.held
+    (subst (λ (b : BookView). IfSome c.args.settled (λ _. IsRowOf b.case b.rows b.history c.args.name.now c.args.row.now))
+    (sym c.self.view_is) c.requires.was)
+
+-- the keeper has the bytes of the row before a line's deliveries came
+pub append-requires-clause-shorter : goal.append-requires-clause-shorter
+append-requires-clause-shorter g c =
+    grown-held c.args.settled c.args.entry c.args.sent c.self.inside.case.now c.self.inside.core.history c.self.inside.core.rows
+    c.args.name.now c.args.row.now c.self.invariant.held c.requires.next.on_row
+    (subst (λ (b : BookView). IsRowOf b.case b.rows (b.history ++ c.args.entry ∷ []) c.args.name.now
+    (left_row c.args.settled c.args.row.now)) (sym c.self.view_is) c.requires.next.of_history)
+    (subst (λ (b : BookView). c.args.sent ≡ sent_by b.case.topology b.history c.args.entry) (sym c.self.view_is) c.requires.sent)

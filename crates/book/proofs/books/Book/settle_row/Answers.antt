@@ -18,6 +18,7 @@ append_left-requires g c =
       next = subst (λ (e : Entry). IsNext book.case (core_of book) c.args.name.now e (left_row (Some c.args.settled) row))
           (sym same) c.requires.next;
       below = c.requires.below;
+      was = c.requires.was;
       sent = subst (λ (e : Entry). 0 ≡ sent_by book.case.topology book.history e) (sym same) refl;
       left = (
         row,
