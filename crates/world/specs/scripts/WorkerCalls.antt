@@ -18,7 +18,7 @@ use Rattle.node.specs.declared.outcome.Outcome.{Outcome}
 use Rattle.node.specs.declared.outcome.Outcome.TheVariants as outcomes
 use Rattle.outbox.specs.declared.outgoing.Outgoing.{Outgoing}
 use Rattle.world.specs.scripts.Acts.{act, must_wait, without_message}
-use Rattle.world.specs.scripts.Worlds.{World, in_flight, lease_on, row_of_message}
+use Rattle.world.specs.scripts.Worlds.{World, in_flight, lease_on, row_of_message, to_pass}
 use Rattle.plans.specs.declared.step.Step.{Step}
 use Rattle.plans.specs.declared.step.Step.TheVariants as steps
 use Rattle.world.specs.scripts.Relaying.{copied_left, sent_left}
@@ -79,12 +79,16 @@ abbrev pub ActsOn : Step → BookView → NodeView → BookView → NodeView →
 ActsOn step old was new node outcome = IfSome old.rows (λ _. (world : World) → IsWorldAt old was world →
     (outcome, world_with new was.number node world) ≡ act old.case world step)
 
--- a worker took a message as it is taken in each scripted world of which it is a worker, and where it is in
--- flight under this number
+-- a message is in flight in a scripted world under this number, and has passed all relays on its way
+pub record HasArrived (world : World) (message : ℕ) (taken : Outgoing) : Type 0 where
+  pub flying : in_flight world.flight message ≡ Some taken
+  pub passed : to_pass world message ≡ 0
+
+-- a worker took a message as it is taken in each scripted world of which it is a worker, and to which it has
+-- come under this number
 abbrev pub TakesOn : ℕ → Outgoing → BookView → NodeView → BookView → NodeView → Outcome → Type 0
 TakesOn message taken old was new node outcome =
-    IfSome old.rows (λ _. (world : World) → IsWorldAt old was world →
-    in_flight world.flight message ≡ Some taken →
+    IfSome old.rows (λ _. (world : World) → IsWorldAt old was world → HasArrived world message taken →
     (outcome, record (world_with new was.number node world) { flight = without_message message world.flight })
     ≡ act old.case world (steps.Take was.number message))
 
@@ -124,10 +128,10 @@ abbrev pub IsFullOn : Step → BookView → NodeView → NodeFault → Type 0
 IsFullOn step old was why = why ≡ HistoryFull → IfSome old.rows (λ _. (world : World) →
     IsWorldAt old was world → AppendsOne old.case world step)
 
--- so where it took a message that is in flight under this number
+-- so where it took a message that has come under this number
 abbrev pub IsFullTaking : ℕ → Outgoing → BookView → NodeView → NodeFault → Type 0
 IsFullTaking message taken old was why = why ≡ HistoryFull → IfSome old.rows (λ _. (world : World) →
-    IsWorldAt old was world → in_flight world.flight message ≡ Some taken →
+    IsWorldAt old was world → HasArrived world message taken →
     AppendsOne old.case world (steps.Take was.number message))
 
 -- a step of a world fails since the history is full only where it would have appended an entry
