@@ -91,11 +91,14 @@ passed-deed world number message m held there = by_room (has_numbers world.fligh
   where
     by_room : (b : Bool) → (if b then passed_on number message world m held else nothing world 0)
         ≡ deed_in world number (if b
-        then (outcomes.Sent 1, record {
-          flight = without_message message world.flight ++ in_flight world.flight message ∷ [];
-          left = world.left ++ (to_pass world message - 1) ∷ [];
-          held = held;
-        }) else (outcomes.Nothing, passing_at world number))
+        then (
+          outcomes.Sent 1,
+          record {
+            flight = without_message message world.flight ++ in_flight world.flight message ∷ [];
+            left = world.left ++ (to_pass world message - 1) ∷ [];
+            held = held;
+          },
+        ) else (outcomes.Nothing, passing_at world number))
     by_room true = ap (λ (o : Option Outgoing). record (stays world 0 (outcomes.Sent 1)) {
       flight = without_message message world.flight ++ o ∷ [];
       left = world.left ++ (to_pass world message - 1) ∷ [];

@@ -167,13 +167,16 @@ send-more old new was node flight after count sending none counted room world at
         → f ≡ world.flight ++ map Some (worker_of world was.number).outbox
         → l ≡ world.left ++ map (λ (o : Outgoing). length (relays_on world.routes o)) (worker_of world was.number).outbox
         → n ≡ length (worker_of world was.number).outbox
-        → (outcomes.Sent n, record world {
-          history = h;
-          marks = m;
-          workers = slice_set world.workers was.number w;
-          flight = f;
-          left = l;
-        }) ≡ done old.case.topology world (send_all was.number world)
+        → (
+          outcomes.Sent n,
+          record world {
+            history = h;
+            marks = m;
+            workers = slice_set world.workers was.number w;
+            flight = f;
+            left = l;
+          },
+        ) ≡ done old.case.topology world (send_all was.number world)
     left h m w f l n hs ms ws fs ls ns = λ i. (
       outcomes.Sent (ns i),
       record world {

@@ -1,13 +1,14 @@
 //! Messages in flight, each found by its number.
-ghost use Rattle.std.specs.Prelude.{◌≡◌, ◌≤◌, ◌+◌, ◌++◌, ◌∷◌, ◌^◌, [], nat_le, length, map, All, IfErr, IfOk, IsFalse, IsSome, IsTrue, None, OnErr, OnOk, Some, option_copied, slice_get, slice_set, unwrap_or};
+ghost use Rattle.std.specs.Prelude.{List, ℕ, ◌≡◌, ◌≤◌, ◌+◌, ◌++◌, ◌∷◌, ◌^◌, [], nat_le, length, map, All, IfErr, IfOk, IsFalse, IsSome, IsTrue, None, OnErr, OnOk, Some, option_copied, slice_get, slice_set, unwrap_or};
 ghost use Rattle.std.specs.Option.{option_map};
 ghost use Rattle.std.specs.Vec.{vec_capacity};
+ghost use Rattle.topology.specs.Folding.{RoutesView};
 ghost use Rattle.book.specs.Books.{BookView};
 ghost use Rattle.node.specs.Received.{outgoing_of};
 ghost use Rattle.node.specs.Workers.{worker_at};
 ghost use Rattle.world.specs.scripts.Acts.{without_message};
 ghost use Rattle.world.specs.scripts.Worlds.{in_flight};
-ghost use Rattle.world.specs.scripts.Standing.{FitsOwn, IsFlying};
+ghost use Rattle.world.specs.scripts.Standing.{AreOnWay, FitsOwn, IsFlying};
 ghost use Rattle.world.specs.scripts.Stepping.{NamesNone};
 ghost use Rattle.world.specs.scripts.WorkerCalls.{CopiesOn, FliesOn, HasCalled, HasCopied, HasSent, IsSending, SendsOn};
 ghost use Rattle.world.specs.scripts.WorldStates.{flight_of};
@@ -216,6 +217,9 @@ pub(crate) fn lose(flight: &mut Flight, message: u32) -> Outcome
         (flight_of flight.old.items) (flight_of flight.new.items) result }
     ensures cause { NamesNone result }
     ensures same { length flight.new.items ≡ length flight.old.items }
+    ensures on_way { (routes : RoutesView) (left : List ℕ) →
+        AreOnWay routes (flight_of flight.old.items) left →
+        AreOnWay routes (flight_of flight.new.items) left }
     ensures flying { (book : BookView) → All (IsFlying book) (flight_of flight.old.items) →
         All (IsFlying book) (flight_of flight.new.items) }
 {

@@ -20,8 +20,11 @@ use weak_relay::Relay;
 // How many relays each message has still to pass that was sent or copied, by its number.
 pub(crate) type Left = Vec<usize>;
 
+// The relays, by their numbers.
+pub(crate) type Relays = Vec<Relay>;
+
 // So many relays that hold no id.
-pub(crate) fn new_relays(alloc: Global, count: u32) -> Result<Vec<Relay>, NoMemory>
+pub(crate) fn new_relays(alloc: Global, count: u32) -> Result<Relays, NoMemory>
     ensures { IfOk result (λ relays. relays.items ≡ replicate count []) }
 {
     let mut relays = Vec::new(alloc);
@@ -32,8 +35,8 @@ pub(crate) fn new_relays(alloc: Global, count: u32) -> Result<Vec<Relay>, NoMemo
 }
 
 // Has each relay forget.
-pub(crate) fn forget_all(relays: &mut [Relay])
-    ensures { relays.new ≡ replicate (length relays.old) [] }
+pub(crate) fn forget_all(relays: &mut Relays)
+    ensures { relays.new.items ≡ replicate (length relays.old.items) [] }
 {
     for number in 0..relays.len() {
         relays[number].forget();
@@ -73,13 +76,13 @@ fn way_of<'r>(routes: &'r Routes, message: &Message<NoNote>) -> &'r [u32]
 }
 
 // Notes of each message that was sent just now that it has its whole way to go.
-pub(crate) fn note_sent(left: &mut Left, flight: &[Option<Message<NoNote>>], routes: &Routes)
-    requires behind { length left.old.items ≤ length flight.now }
-    requires room { length flight.now ≤ vec_capacity left.old }
-    requires routed { AreRouted routes.now (flight_of flight.now) }
-    ensures { left.new.items ≡ sent_left routes.now (flight_of flight.now) left.old.items }
+pub(crate) fn note_sent(left: &mut Left, flight: &Flight, routes: &Routes)
+    requires behind { length left.old.items ≤ length flight.now.items }
+    requires room { length flight.now.items ≤ vec_capacity left.old }
+    requires routed { AreRouted routes.now (flight_of flight.now.items) }
+    ensures { left.new.items ≡ sent_left routes.now (flight_of flight.now.items) left.old.items }
 {
-    let sent = &flight[left.len()..];
+    let sent = &flight.as_slice()[left.len()..];
     note_ways(left, sent, routes);
 }
 
@@ -106,9 +109,9 @@ fn way_length(routes: &Routes, place: &Option<Message<NoNote>>) -> usize
 }
 
 // Notes of a copy, if one was made just now, that it has as many to pass as its original.
-pub(crate) fn note_copied(left: &mut Left, flight: &[Option<Message<NoNote>>], message: u32)
+pub(crate) fn note_copied(left: &mut Left, flight: &Flight, message: u32)
     requires room { length left.old.items + 1 ≤ vec_capacity left.old }
-    ensures { left.new.items ≡ copied_left message (length flight.now) left.old.items }
+    ensures { left.new.items ≡ copied_left message (length flight.now.items) left.old.items }
 {
     if left.len() < flight.len() {
         let same = to_pass(left, message);
@@ -150,22 +153,22 @@ fn told_by(message: &Message<NoNote>) -> (RecordId, bool)
 pub(crate) fn relay(
     flight: &mut Flight,
     left: &mut Left,
-    relays: &mut [Relay],
+    relays: &mut Relays,
     routes: &Routes,
     relay: u32,
     message: u32,
 ) -> Result<Outcome, NodeFault>
-    requires relay { relay < length relays.old }
+    requires relay { relay < length relays.old.items }
     requires few { length flight.old.items ≤ 2 ^ 32 }
     requires routed { AreRouted routes.now (flight_of flight.old.items) }
     requires on_way { AreOnWay routes.now (flight_of flight.old.items) left.old.items }
     ensures acted { IfOk result (HasRelayed relay message routes.now
-        (flight_of flight.old.items) left.old.items relays.old
-        (flight_of flight.new.items) left.new.items relays.new) }
+        (flight_of flight.old.items) left.old.items relays.old.items
+        (flight_of flight.new.items) left.new.items relays.new.items) }
     ensures cause { IfOk result NamesNone }
     ensures flight { OnErr result (flight.new.items ≡ flight.old.items) }
     ensures left { OnErr result (left.new.items ≡ left.old.items) }
-    ensures relays { OnErr result (relays.new ≡ relays.old) }
+    ensures relays { OnErr result (relays.new.items ≡ relays.old.items) }
     ensures no_memory { IfErr result (λ why. why ≡ NodeFault.NoMemory) }
 {
     let Some(found) = find(flight, message) else {

@@ -134,8 +134,9 @@ impl<'a, K: Keeper, C: Computation + Drop> World<'a, K, C> {
         ensures failed { IfErr result (HasFailed self.old.book self.new.book) }
         ensures full { IfErr result (IsFullStep (Step.Send worker) self.old) }
     {
+        let count = self.nodes[worker as usize].unsent();
+        make_places(&mut self.left, count)?;
         let node = &mut self.nodes[worker as usize];
-        make_places(&mut self.left, node.unsent())?;
         let answer = send(&mut self.book, node, &mut self.flight);
         note_sent(&mut self.left, &self.flight, &self.routes);
         answer
