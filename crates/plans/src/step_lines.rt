@@ -1,6 +1,6 @@
 //! The step that a line of a schedule names.
 ghost use Rattle.std.specs.Prelude.{◌≡◌, ◌≤◌, ◌<◌, ◌^◌, IfSome};
-ghost use Rattle.topology.specs.Shapes.{Shape, injectors_of, parts_of};
+ghost use Rattle.topology.specs.Shapes.{injectors_of, parts_of};
 ghost use Rattle.text_lines.specs.Words.{word_of};
 ghost use Rattle.plans.specs.Steps.{IsStep};
 ghost use Rattle.plans.specs.Named.{interval_in};
@@ -73,9 +73,9 @@ fn computation_in(case: &Case, word: &[u8]) -> Option<u32>
 }
 
 // The step of a verb and its one number.
-fn step_of_one(weaks: u32, verb: &[u8], a: &[u8]) -> Option<Step>
+fn step_of_one(case: &Case, weaks: u32, verb: &[u8], a: &[u8]) -> Option<Step>
     ensures step { result ≡ step_of_one weaks verb.now a.now }
-    ensures there { (shape : Shape) → IfSome result (IsStep shape weaks) }
+    ensures there { IfSome result (IsStep case.now.topology weaks) }
 {
     if verb == b"send".as_slice() {
         worker_in(a).map(|worker| Step::Send { worker })
@@ -142,7 +142,7 @@ fn step_of_numbers(case: &Case, weaks: u32, verb: &[u8], numbers: &[u8]) -> Opti
 {
     match first_word(numbers) {
         Some((a, b)) => step_of_two(case, weaks, verb, a, b),
-        None => step_of_one(weaks, verb, numbers),
+        None => step_of_one(case, weaks, verb, numbers),
     }
 }
 

@@ -8,6 +8,6 @@ pub mod RelayScripts
 pub mod WorldStates
 pub mod Stepping
 pub mod Standing
+pub mod Relaying
 pub mod WorkerCalls
 pub mod ScriptRuns
-pub mod Relaying

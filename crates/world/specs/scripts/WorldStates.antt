@@ -23,10 +23,13 @@ pub record WorldState : Type 0 where
   pub relays : List (List RecordId)
   pub routes : RoutesView
 
+-- what is in flight under a number without its note, if anything is
+abbrev pub noteless : Option (Message NoNote) → Option Outgoing
+noteless place = option_map (λ (message : Message NoNote). outgoing_of message) place
+
 -- the messages in flight without their notes
 abbrev pub flight_of : List (Option (Message NoNote)) → List (Option Outgoing)
-flight_of flight = map (λ (m : Option (Message NoNote)).
-    option_map (λ (message : Message NoNote). outgoing_of message) m) flight
+flight_of flight = map noteless flight
 
 -- the scripted world that it is: the rows that its workers have cached, and the notes, are left out
 abbrev pub world_of : WorldState → World

@@ -10,7 +10,7 @@ ghost use Rattle.world.specs.WorldDrains.{AreNew};
 ghost use Rattle.world.specs.scripts.WorldStates.{IsFolding, world_of};
 
 use crate::scripts::flights::Flight;
-use crate::scripts::relays::{Left, new_relays};
+use crate::scripts::relays::{Left, Relays, new_relays};
 use book::{Book, NoNote};
 use computations::Computation;
 use mw_types::NoMemory;
@@ -19,7 +19,6 @@ use row_keeper::Keeper;
 use std::alloc::Global;
 use std::marker::Model;
 use topology::Routes;
-use weak_relay::Relay;
 
 /// Sixteen workers over one book, the messages between them, and the relays that these pass.
 #[derive(Drop)]
@@ -29,7 +28,7 @@ pub struct World<'a, K: Keeper, C: Computation + Drop> {
     pub(crate) nodes: Vec<Node<NoNote>>,
     pub(crate) flight: Flight,
     pub(crate) left: Left,
-    pub(crate) relays: Vec<Relay>,
+    pub(crate) relays: Relays,
     pub(crate) routes: Routes,
 }
 
@@ -153,10 +152,7 @@ impl<'a, K: Keeper, C: Computation + Drop> World<'a, K, C> {
 }
 
 // Sixteen workers that have nothing, and so many relays that hold no id.
-fn workers_and_relays(
-    alloc: Global,
-    weaks: u32,
-) -> Result<(Vec<Node<NoNote>>, Vec<Relay>), NoMemory>
+fn workers_and_relays(alloc: Global, weaks: u32) -> Result<(Vec<Node<NoNote>>, Relays), NoMemory>
     ensures workers { IfOk result (λ both. AreNew 16 both.0.items) }
     ensures relays { IfOk result (λ both. both.1.items ≡ replicate weaks []) }
 {

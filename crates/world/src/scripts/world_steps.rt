@@ -17,7 +17,7 @@ ghost use Rattle.world.specs.scripts.WorldStates.{world_of};
 
 use crate::scripts::deliveries::{answered_in_place, receive};
 use crate::scripts::flights::{find, lose, repeat, send, take_out};
-use crate::scripts::relays::{make_places, note_copied, note_sent, relay};
+use crate::scripts::relays::{make_places, note_copied, note_sent, relay, to_pass};
 use crate::scripts::worker_calls::{claim, fire, inject, purge, report, resend, write};
 use crate::scripts::world::World;
 use book::{Book, NoNote};
@@ -134,11 +134,12 @@ impl<'a, K: Keeper, C: Computation + Drop> World<'a, K, C> {
         ensures failed { IfErr result (HasFailed self.old.book self.new.book) }
         ensures full { IfErr result (IsFullStep (Step.Send worker) self.old) }
     {
+        let count = self.nodes[worker as usize].unsent();
+        make_places(&mut self.left, count)?;
         let node = &mut self.nodes[worker as usize];
-        make_places(&mut self.left, node.unsent())?;
-        let sent = send(&mut self.book, node, &mut self.flight)?;
+        let answer = send(&mut self.book, node, &mut self.flight);
         note_sent(&mut self.left, &self.flight, &self.routes);
-        Ok(sent)
+        answer
     }
 
     // A worker takes a message, unless that stays in flight.
@@ -157,7 +158,7 @@ impl<'a, K: Keeper, C: Computation + Drop> World<'a, K, C> {
             return Ok(Outcome::Nothing);
         };
         // It has relays to pass first.
-        if self.left[message as usize] > 0 {
+        if to_pass(&self.left, message) > 0 {
             return Ok(Outcome::Nothing);
         }
         let here = &self.nodes[worker as usize];
@@ -179,9 +180,9 @@ impl<'a, K: Keeper, C: Computation + Drop> World<'a, K, C> {
         ensures full { IfErr result (IsFullStep (Step.Repeat message) self.old) }
     {
         make_places(&mut self.left, 1)?;
-        let copied = repeat(alloc, &mut self.flight, message)?;
+        let answer = repeat(alloc, &mut self.flight, message);
         note_copied(&mut self.left, &self.flight, message);
-        Ok(copied)
+        answer
     }
 
     // A message passes a relay.
