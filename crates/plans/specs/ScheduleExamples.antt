@@ -9,7 +9,7 @@ use Rattle.plans.specs.Schedules.{schedule_of}
 
 -- what a schedule of the example says
 abbrev pub said_by : List ℕ → Result (List Step) PlanRefusal
-said_by bytes = schedule_of (one_count 60) bytes
+said_by bytes = schedule_of (one_count 60) 0 bytes
 
 -- the schedule is refused for this line
 abbrev pub refused_at : ℕ → Result (List Step) PlanRefusal

@@ -36,15 +36,21 @@ impl Schedule {
     }
 }
 
-/// Reads a schedule for a case, whose intervals and parts its lines may name.
-pub fn read_schedule(alloc: Global, bytes: &[u8], case: &Case) -> Result<Schedule, PlanRefusal>
+/// Reads a schedule for a case, whose intervals and parts its lines may name, and for so many relays, as many
+/// as folding left weak computations out.
+pub fn read_schedule(
+    alloc: Global,
+    bytes: &[u8],
+    case: &Case,
+    weaks: u32,
+) -> Result<Schedule, PlanRefusal>
     requires few { length bytes.now < 2 ^ 32 }
 
-    ensures steps { IfOk result (λ steps. schedule_of case.now.topology bytes.now ≡ Ok steps) }
-    ensures there { IfOk result (All (IsStep case.now.topology)) }
+    ensures steps { IfOk result (λ steps. schedule_of case.now.topology weaks bytes.now ≡ Ok steps) }
+    ensures there { IfOk result (All (IsStep case.now.topology weaks)) }
     ensures refused { IfErr result
-        (IsRefusalOf PlanRefusal.NoMemory (schedule_of case.now.topology bytes.now)) }
+        (IsRefusalOf PlanRefusal.NoMemory (schedule_of case.now.topology weaks bytes.now)) }
 {
-    let steps = read_all(alloc, bytes, &StepReader { case })?;
+    let steps = read_all(alloc, bytes, &StepReader { case, weaks })?;
     Ok(Schedule { steps })
 }

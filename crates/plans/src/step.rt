@@ -70,6 +70,18 @@ pub enum Step {
         /// The message.
         message: u32,
     },
+    /// A message passes the relay that is next on its way.
+    Relay {
+        /// The relay, which is the number of a weak computation.
+        relay: u32,
+        /// The message.
+        message: u32,
+    },
+    /// A relay forgets the ids that it holds.
+    Forget {
+        /// The relay, which is the number of a weak computation.
+        relay: u32,
+    },
     /// A worker crashes, and forgets all.
     Crash {
         /// The worker.

@@ -4,7 +4,7 @@ ghost use Rattle.topology.specs.Shapes.{injectors_of, parts_of};
 ghost use Rattle.text_lines.specs.Words.{word_of};
 ghost use Rattle.plans.specs.Steps.{IsStep};
 ghost use Rattle.plans.specs.Named.{interval_in};
-ghost use Rattle.plans.specs.Schedules.{worker_in, message_in, injector_in, computation_in, step_of_one, step_of_two, step_of_numbers, step_of};
+ghost use Rattle.plans.specs.Schedules.{worker_in, message_in, relay_in, injector_in, computation_in, step_of_one, step_of_two, step_of_numbers, step_of};
 
 use crate::named::interval_in;
 use crate::step::Step;
@@ -15,17 +15,18 @@ use text_lines::{LineReader, below, between, first_word};
 #[derive(Drop)]
 pub(crate) struct StepReader<'a> {
     pub(crate) case: &'a Case,
+    pub(crate) weaks: u32,
 }
 
 impl<'a> LineReader for StepReader<'a> {
     type Said = Step;
 
-    ghost reading = { λ reader. step_of reader.case.now.topology };
+    ghost reading = { λ reader. step_of reader.case.now.topology reader.weaks };
 
-    ghost lawful = { λ reader. IsStep reader.case.now.topology };
+    ghost lawful = { λ reader. IsStep reader.case.now.topology reader.weaks };
 
     fn read(&self, line: &[u8]) -> Option<Step> {
-        step_in(self.case, line)
+        step_in(self.case, self.weaks, line)
     }
 }
 
@@ -43,6 +44,14 @@ fn message_in(word: &[u8]) -> Option<u32>
     ensures range { IfSome result (λ n. n < 2 ^ 32) }
 {
     below(1 << 32, word)
+}
+
+// The relay that a word names, of so many.
+fn relay_in(weaks: u32, word: &[u8]) -> Option<u32>
+    ensures number { result ≡ relay_in weaks word.now }
+    ensures range { IfSome result (λ n. n < weaks) }
+{
+    below(u64::from(weaks), word)
 }
 
 // The injector that a word names.
@@ -64,9 +73,9 @@ fn computation_in(case: &Case, word: &[u8]) -> Option<u32>
 }
 
 // The step of a verb and its one number.
-fn step_of_one(case: &Case, verb: &[u8], a: &[u8]) -> Option<Step>
-    ensures step { result ≡ step_of_one verb.now a.now }
-    ensures there { IfSome result (IsStep case.now.topology) }
+fn step_of_one(case: &Case, weaks: u32, verb: &[u8], a: &[u8]) -> Option<Step>
+    ensures step { result ≡ step_of_one weaks verb.now a.now }
+    ensures there { IfSome result (IsStep case.now.topology weaks) }
 {
     if verb == b"send".as_slice() {
         worker_in(a).map(|worker| Step::Send { worker })
@@ -80,15 +89,17 @@ fn step_of_one(case: &Case, verb: &[u8], a: &[u8]) -> Option<Step>
         message_in(a).map(|message| Step::Repeat { message })
     } else if verb == b"lose".as_slice() {
         message_in(a).map(|message| Step::Lose { message })
+    } else if verb == b"forget".as_slice() {
+        relay_in(weaks, a).map(|relay| Step::Forget { relay })
     } else {
         None
     }
 }
 
 // The step of a verb and its two numbers.
-fn step_of_two(case: &Case, verb: &[u8], a: &[u8], b: &[u8]) -> Option<Step>
-    ensures step { result ≡ step_of_two case.now.topology verb.now a.now b.now }
-    ensures there { IfSome result (IsStep case.now.topology) }
+fn step_of_two(case: &Case, weaks: u32, verb: &[u8], a: &[u8], b: &[u8]) -> Option<Step>
+    ensures step { result ≡ step_of_two case.now.topology weaks verb.now a.now b.now }
+    ensures there { IfSome result (IsStep case.now.topology weaks) }
 {
     if verb == b"claim".as_slice() {
         let worker = worker_in(a)?;
@@ -114,30 +125,34 @@ fn step_of_two(case: &Case, verb: &[u8], a: &[u8], b: &[u8]) -> Option<Step>
         let worker = worker_in(a)?;
         let message = message_in(b)?;
         Some(Step::Take { worker, message })
+    } else if verb == b"relay".as_slice() {
+        let relay = relay_in(weaks, a)?;
+        let message = message_in(b)?;
+        Some(Step::Relay { relay, message })
     } else {
         None
     }
 }
 
 // The step of a verb and what follows it.
-fn step_of_numbers(case: &Case, verb: &[u8], numbers: &[u8]) -> Option<Step>
+fn step_of_numbers(case: &Case, weaks: u32, verb: &[u8], numbers: &[u8]) -> Option<Step>
     ensures step { result
-        ≡ step_of_numbers case.now.topology verb.now numbers.now (word_of numbers.now) }
-    ensures there { IfSome result (IsStep case.now.topology) }
+        ≡ step_of_numbers case.now.topology weaks verb.now numbers.now (word_of numbers.now) }
+    ensures there { IfSome result (IsStep case.now.topology weaks) }
 {
     match first_word(numbers) {
-        Some((a, b)) => step_of_two(case, verb, a, b),
-        None => step_of_one(case, verb, numbers),
+        Some((a, b)) => step_of_two(case, weaks, verb, a, b),
+        None => step_of_one(case, weaks, verb, numbers),
     }
 }
 
 // The step that a line names.
-fn step_in(case: &Case, line: &[u8]) -> Option<Step>
-    ensures step { result ≡ step_of case.now.topology line.now }
-    ensures there { IfSome result (IsStep case.now.topology) }
+fn step_in(case: &Case, weaks: u32, line: &[u8]) -> Option<Step>
+    ensures step { result ≡ step_of case.now.topology weaks line.now }
+    ensures there { IfSome result (IsStep case.now.topology weaks) }
 {
     match first_word(line) {
-        Some((verb, numbers)) => step_of_numbers(case, verb, numbers),
+        Some((verb, numbers)) => step_of_numbers(case, weaks, verb, numbers),
         None => None,
     }
 }

@@ -27,6 +27,7 @@ some-then (Some x) is some = is
 pub run-none : (start : WorldState) (all : List Step) → IsRunning start start all all
 run-none start all = record {
   case = refl;
+  routes = refl;
   limit = refl;
   tells = refl;
   faults = omega arith;
@@ -40,11 +41,13 @@ begins-one old new one = (option_to_list one.entry, sym one.appended)
 
 -- one step more
 pub run-more : (start world new : WorldState) (step : Step) (rest all : List Step) (outcome : Outcome)
-    → IsRunning start world (step ∷ rest) all → new.book.case ≡ world.book.case → new.book.limit ≡ world.book.limit
+    → IsRunning start world (step ∷ rest) all → new.book.case ≡ world.book.case → new.routes ≡ world.routes
+    → new.book.limit ≡ world.book.limit
     → is_some new.book.rows ≡ is_some world.book.rows → world.book.faults ≤ new.book.faults
     → AppendsAtMostOne (world_of world) (world_of new) → HasActed step world new outcome → IsRunning start new rest all
-run-more start world new step rest all outcome running case limit tells faults one acted = record {
+run-more start world new step rest all outcome running case routes limit tells faults one acted = record {
   case = case ∙ running.case;
+  routes = routes ∙ running.routes;
   limit = limit ∙ running.limit;
   tells = tells ∙ running.tells;
   faults = let before = running.faults in omega (arith, before, faults);
@@ -69,6 +72,8 @@ faulted-history (steps.Resend worker) old new kept = ap (λ (w : World). w.histo
 faulted-history (steps.Purge worker interval) old new kept = ap (λ (w : World). w.history) kept
 faulted-history (steps.Repeat message) old new kept = ap (λ (w : World). w.history) kept
 faulted-history (steps.Lose message) old new kept = ap (λ (w : World). w.history) kept
+faulted-history (steps.Relay relay message) old new kept = ap (λ (w : World). w.history) kept
+faulted-history (steps.Forget relay) old new kept = ap (λ (w : World). w.history) kept
 faulted-history (steps.Crash worker) old new kept = ap (λ (w : World). w.history) kept
 
 -- what was written so far begins what the script writes

@@ -2,10 +2,13 @@
 use Rattle.std.proofs.Common.{◌≡◌, ◌∙◌, ◌+◌, ◌<◌, ◌++◌, ◌∷◌, ℕ, List, [], length, get_or, refl, sym, ap, subst, arith, inl, inr, length-append}
 use Rattle.std.specs.Prelude.{All, Bool, Err, IfErr, IfOk, Ok, OnOk, Result, Some, map, replicate, slice_get, slice_set, take}
 use Rattle.std.proofs.lemmas.Bool.{cases_eq, cases_lt}
-use Rattle.std.proofs.lemmas.List.{get_or-set_other, get_or-set_same, get_or_append_left, length-set, map-append, replicate-append-replicate, take_all, take_more_set}
+use Rattle.std.proofs.lemmas.List.{get_or-set_other, get_or-set_same, get_or_append_left, length-replicate, length-set, map-append, replicate-append-replicate, take_all, take_more_set}
+use Rattle.std.proofs.lemmas.List.FromFn.{length-map-range_with_len}
 use Rattle.std.proofs.lemmas.List.Elements.{All-from_recursion, All-push}
 use Rattle.std.proofs.lemmas.Option.{get_or_from_slice_get, slice_get-get_or, slice_get_within}
 use Rattle.std.proofs.Math.Seq.{get_or-append_seam, take-append_seam}
+use Rattle.topology.specs.Folding.{RoutesView, folded, routes_to, strong_from}
+use Rattle.topology.specs.Shapes.{Shape, parts_of, stream_of}
 use Rattle.run_history.specs.Cases.{CaseShape}
 use Rattle.book.specs.Books.{BookView}
 use Rattle.book.specs.Desks.{DeskView}
@@ -14,12 +17,12 @@ use Rattle.node.specs.Fits.{Fits}
 use Rattle.node.specs.Workers.{NodeView, Worker, idle, worker_at}
 use Rattle.node.specs.declared.outcome.NodeFault.{NodeFault}
 use Rattle.world.specs.scripts.Keeping.{AreClaimed}
-use Rattle.world.specs.scripts.Worlds.{world_on}
+use Rattle.world.specs.scripts.Worlds.{World, world_on}
 use Rattle.world.proofs.scripts.Leases.{AreClaimed-first}
 use Rattle.world.specs.scripts.Standing.{IsFlying, IsWorld}
 use Rattle.world.specs.scripts.WorkerCalls.{AreNewTo}
 use Rattle.world.specs.WorldDrains.{AreNew, HasDrain}
-use Rattle.world.specs.scripts.WorldStates.{WorldState, world_of}
+use Rattle.world.specs.scripts.WorldStates.{IsFolding, WorldState, world_of}
 use Rattle.world.specs.drains.DrainTurns.{DrainView, HasDrained, IsUnderWay}
 use Rattle.world.specs.drains.Turns.{HasFailed}
 
@@ -50,27 +53,45 @@ new-more count nodes node new number nothing fits = record {
     size : length (nodes ++ node ∷ []) ≡ count + 1
     size = length-append nodes (node ∷ []) ∙ ap (λ k. k + 1) new.all
 
--- a world of new workers is the one in which a script begins
-pub begun : (book : BookView) (nodes : List NodeView) → AreNew 16 nodes
-    → world_of (record { book = book; nodes = nodes; flight = [] }) ≡ world_on book.history book.marks
-begun book nodes new = ap (λ (ws : List Worker). record {
-  history = book.history;
-  marks = book.marks;
-  workers = ws;
+-- a world of these workers, in which nothing is in flight and relays hold nothing
+abbrev pub world_of_new : RoutesView → BookView → List NodeView → WorldState
+world_of_new routes book nodes = record {
+  book = book;
+  nodes = nodes;
   flight = [];
-}) new.have_nothing
+  left = [];
+  relays = replicate routes.weaks [];
+  routes = routes;
+}
 
--- and it is one
-pub started : (book : BookView) (nodes : List NodeView) → AreNew 16 nodes
-    → IsWorld (record { book = book; nodes = nodes; flight = [] })
-started book nodes new = record {
+-- where the workers are new it is the one in which a script begins
+pub begun : (routes : RoutesView) (book : BookView) (nodes : List NodeView) → AreNew 16 nodes
+    → world_of (world_of_new routes book nodes) ≡ world_on routes book.history book.marks
+begun routes book nodes new =
+    ap (λ (ws : List Worker). let w : World = record (world_on routes book.history book.marks) { workers = ws } in w) new.have_nothing
+
+-- and it is a world
+pub started : (routes : RoutesView) (book : BookView) (nodes : List NodeView) → AreNew 16 nodes
+    → length routes.by_part ≡ parts_of book.case.topology → IsWorld (world_of_new routes book nodes)
+started routes book nodes new routed = record {
   sixteen = new.all;
   numbered = new.numbered;
   fit = new.fit book.case (own_view book) refl;
-  claimed = subst AreClaimed (sym (begun book nodes new)) (AreClaimed-first book.history book.marks);
+  claimed = subst AreClaimed (sym (begun routes book nodes new)) (AreClaimed-first routes book.history book.marks);
   flying = All-from_recursion (IsFlying book) [] tt;
   few = omega arith;
+  on_way = tt;
+  relays = length-replicate routes.weaks [];
+  routed = routed;
 }
+
+-- what folding leaves has routes for each of its parts
+pub routed-folded : (shape : Shape) (routes : RoutesView) → IsFolding shape routes → length routes.by_part ≡ parts_of shape
+routed-folded shape routes is =
+    ap (λ (r : RoutesView). length r.by_part) is.ways
+    ∙ length-map-range_with_len (λ part. routes_to (strong_from 0 is.file.computations) (stream_of (folded is.file) part)) 0
+    (parts_of (folded is.file))
+    ∙ ap parts_of (sym is.left)
 
 -- ---- workers that crash one after another
 
@@ -138,17 +159,42 @@ crashed-whole len new rest size is =
 
 -- ---- a drain of a world
 
+-- a world of new workers, in which nothing is in flight and no relay holds anything
+pub record IsIdle (world : WorldState) : Type 0 where
+  pub new : AreNew 16 world.nodes
+  pub none : world.flight ≡ []
+  pub none_left : world.left ≡ []
+  pub forgot : world.relays ≡ replicate world.routes.weaks []
+
+-- so it is in a drain
+pub idle-drain : (world : WorldState) (drain : DrainView) → HasDrain world drain → IsIdle world
+idle-drain world drain has = record { new = has.idle; none = has.none; none_left = has.none_left; forgot = has.forgot }
+
+-- over each book it is a world of new workers
+idle-is : (book : BookView) (world : WorldState) → IsIdle world
+    → record world { book = book } ≡ world_of_new world.routes book world.nodes
+idle-is book world is =
+    let flies = is.none in
+    let goes = is.none_left in
+    let held = is.forgot in
+    λ i. record world { book = book; flight = flies i; left = goes i; relays = held i }
+
 -- workers that are new stand in a world over each book
-pub draining-world : (book : BookView) (world : WorldState) → AreNew 16 world.nodes → world.flight ≡ []
-    → IsWorld (record { book = book; nodes = world.nodes; flight = world.flight })
-draining-world book world new none =
-    subst (λ flight. IsWorld (record { book = book; nodes = world.nodes; flight = flight })) (sym none)
-    (started book world.nodes new)
+pub draining-world : (book : BookView) (world : WorldState) → IsIdle world → length world.routes.by_part ≡ parts_of book.case.topology
+    → IsWorld (record world { book = book })
+draining-world book world is routed =
+    subst IsWorld (sym (idle-is book world is)) (started world.routes book world.nodes is.new routed)
 
 -- a drain is under way over the book that its turn leaves
 pub drain-on : (old : WorldState) (book : BookView) (was drain : DrainView) → HasDrain old was → IsUnderWay book drain
-    → HasDrain (record { book = book; nodes = old.nodes; flight = old.flight }) drain
-drain-on old book was drain has under = record { under_way = under; idle = has.idle; none = has.none }
+    → HasDrain (record old { book = book }) drain
+drain-on old book was drain has under = record {
+  under_way = under;
+  idle = has.idle;
+  none = has.none;
+  none_left = has.none_left;
+  forgot = has.forgot;
+}
 
 -- a turn keeps the case, however it ends
 pub turned-case : (r : Result Bool NodeFault) (from : ℕ) (old new : BookView) → IfOk r (HasDrained from old new)
@@ -162,8 +208,6 @@ ok-left (Ok x) f one = f one
 ok-left (Err e) f one = tt
 
 -- the workers of a world that is drained have nothing, and no message is in flight
-pub drained-world : (book : BookView) (world : WorldState) → AreNew 16 world.nodes → world.flight ≡ []
-    → world_of (record { book = book; nodes = world.nodes; flight = world.flight }) ≡ world_on book.history book.marks
-drained-world book world new none =
-    subst (λ flight. world_of (record { book = book; nodes = world.nodes; flight = flight }) ≡ world_on book.history book.marks)
-    (sym none) (begun book world.nodes new)
+pub drained-world : (book : BookView) (world : WorldState) → IsIdle world
+    → world_of (record world { book = book }) ≡ world_on world.routes book.history book.marks
+drained-world book world is = ap world_of (idle-is book world is) ∙ begun world.routes book world.nodes is.new

@@ -14,7 +14,10 @@ pub mod ActsOnLaws
 pub mod WorldSteps
 pub mod CrashLaws
 pub mod TakeLaws
+pub mod OnWays
 pub mod FlightLaws
+pub mod RelayLaws
+pub mod RelayFacts
 pub mod CauseLaws
 pub mod TakeSteps
 pub mod SendSteps

@@ -1,6 +1,7 @@
 -- Which histories a script may end with, and the drain after it. Own.
 use Rattle.std.specs.Prelude.{◌⊎◌, List, length}
 use Rattle.mw_types.specs.declared.entry.Entry.{Entry}
+use Rattle.topology.specs.Folding.{RoutesView}
 use Rattle.run_history.specs.Cases.{CaseShape}
 use Rattle.run_history.specs.Fences.{Begins}
 use Rattle.world.specs.scripts.Acts.{scripted_history}
@@ -13,11 +14,12 @@ pub record GoesOn (case : CaseShape) (front history : List Entry) : Type 0 where
   pub draining : IsDraining case (length front) history
 
 -- a history is a beginning of what a script writes, or goes on from that as a drain does
-abbrev pub IsReplayed : CaseShape → List Step → List Entry → Type 0
-IsReplayed case script history = Begins history (scripted_history case script)
-    ⊎ GoesOn case (scripted_history case script) history
+abbrev pub IsReplayed : RoutesView → CaseShape → List Step → List Entry → Type 0
+IsReplayed routes case script history = Begins history (scripted_history routes case script)
+    ⊎ GoesOn case (scripted_history routes case script) history
 
 -- a history is what a script writes, and the whole drain after it
-pub record IsWholeReplay (case : CaseShape) (script : List Step) (history : List Entry) : Type 0 where
-  pub begins : Begins (scripted_history case script) history
-  pub drained : IsDrained case (length (scripted_history case script)) history
+pub record IsWholeReplay (routes : RoutesView) (case : CaseShape) (script : List Step)
+    (history : List Entry) : Type 0 where
+  pub begins : Begins (scripted_history routes case script) history
+  pub drained : IsDrained case (length (scripted_history routes case script)) history

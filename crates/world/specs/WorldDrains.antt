@@ -14,9 +14,11 @@ pub record AreNew (count : ℕ) (nodes : List NodeView) : Type 0 where
   pub have_nothing : map worker_at nodes ≡ replicate count idle
   pub fit : (case : CaseShape) (desk : DeskView) → desk.case ≡ case → All (Fits case desk) nodes
 
--- a drain of a world's book is under way: its workers have nothing, no message is in flight, and all that
--- came since the drain was begun are its own turns
+-- a drain of a world's book is under way: its workers have nothing, no message is in flight, its relays hold
+-- nothing, and all that came since the drain was begun are its own turns
 pub record HasDrain (world : WorldState) (drain : DrainView) : Type 0 where
   pub under_way : IsUnderWay world.book drain
   pub idle : AreNew 16 world.nodes
   pub none : world.flight ≡ []
+  pub none_left : world.left ≡ []
+  pub forgot : world.relays ≡ replicate world.routes.weaks []

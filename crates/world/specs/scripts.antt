@@ -4,8 +4,10 @@ pub mod Acts
 pub mod Keeping
 pub mod Copies
 pub mod Scripts
+pub mod RelayScripts
 pub mod WorldStates
 pub mod Stepping
 pub mod Standing
+pub mod Relaying
 pub mod WorkerCalls
 pub mod ScriptRuns

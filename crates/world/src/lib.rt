@@ -40,9 +40,11 @@ pub use scripts::examples::{
     crash_before_write, crash_between_write_and_send, late_copy_is_duplicate, old_owner_is_stale,
     one_worker_writes_the_drained_example, overtaken_leases_are_lost,
     records_wait_while_one_is_prepared, steps_without_work_change_nothing,
+    word_is_lost_where_a_relay_forgot, word_passes_back_over_a_relay,
 };
 pub use scripts::keeping::{
-    leases_are_claims_of_their_workers, messages_keep_their_numbers, scripts_keep_what_steps_keep,
+    leases_are_claims_of_their_workers, messages_keep_their_numbers, relays_make_no_message,
+    relays_send_what_they_took, relays_write_nothing, scripts_keep_what_steps_keep,
     steps_append_at_most_one_entry, steps_keep_workers_and_marks,
 };
 pub use scripts::owners::{overtaken_owners_are_refused, scripted_histories_are_fenced};

@@ -7,6 +7,7 @@ pub(crate) mod examples;
 mod flights;
 pub(crate) mod keeping;
 pub(crate) mod owners;
+pub(crate) mod relays;
 pub(crate) mod script_runs;
 mod worker_calls;
 pub(crate) mod world;

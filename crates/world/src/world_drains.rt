@@ -18,6 +18,7 @@ ghost use Rattle.world.specs.scripts.WorldStates.{world_of};
 
 use crate::drains::drain_turns::{Drain, begin_drain, drain_turn};
 use crate::drains::draining::drain;
+use crate::scripts::relays::forget_all;
 use crate::scripts::world::{World, sixteen};
 use book::NoNote;
 use computations::Computation;
@@ -30,6 +31,7 @@ impl<'a, K: Keeper, C: Computation + Drop> World<'a, K, C> {
     /// messages that are sent after it are numbered from 0 again. It returns over every keeper.
     pub fn drain(&mut self, alloc: Global) -> Result<(), NodeFault>
         ensures case { self.new.book.case ≡ self.old.book.case }
+        ensures routes { self.new.routes ≡ self.old.routes }
         ensures limit { self.new.book.limit ≡ self.old.book.limit }
         ensures tells { is_some self.new.book.rows ≡ is_some self.old.book.rows }
         ensures grown { Begins self.old.book.history self.new.book.history }
@@ -37,7 +39,7 @@ impl<'a, K: Keeper, C: Computation + Drop> World<'a, K, C> {
 
         // After Ok no worker has anything, and nothing is in flight.
         ensures begun { OnOk result (world_of self.new
-            ≡ world_on self.new.book.history self.new.book.marks) }
+            ≡ world_on self.new.routes self.new.book.history self.new.book.marks) }
 
         // Where a contract can see the keeper's rows the history goes on as a drain does, and after Ok
         // to its end, where no work is left.
@@ -65,6 +67,8 @@ impl<'a, K: Keeper, C: Computation + Drop> World<'a, K, C> {
         let nodes = sixteen(alloc)?;
         self.nodes = nodes;
         self.flight = Vec::new(alloc);
+        self.left = Vec::new(alloc);
+        forget_all(&mut self.relays);
         drain(alloc, &mut self.book, &self.work)
     }
 
@@ -73,12 +77,14 @@ impl<'a, K: Keeper, C: Computation + Drop> World<'a, K, C> {
     pub fn begin_drain(&mut self, alloc: Global) -> Drain
         ensures book { self.new.book ≡ self.old.book }
         ensures begun { world_of self.new
-            ≡ world_on self.old.book.history self.old.book.marks }
+            ≡ world_on self.old.routes self.old.book.history self.old.book.marks }
         ensures from { result.from ≡ length self.old.book.history }
         ensures drain { HasDrain self.new result }
     {
         crash_all(&mut self.nodes);
         self.flight.clear();
+        self.left.clear();
+        forget_all(&mut self.relays);
         begin_drain(alloc, &self.book)
     }
 
@@ -100,7 +106,7 @@ impl<'a, K: Keeper, C: Computation + Drop> World<'a, K, C> {
 
         // No worker has anything then, and nothing is in flight.
         ensures begun { world_of self.new
-            ≡ world_on self.new.book.history self.new.book.marks }
+            ≡ world_on self.new.routes self.new.book.history self.new.book.marks }
 
         // A fault appends nothing, and where the history is full the drain has not ended.
         ensures failed { IfErr result (HasFailed self.old.book self.new.book) }

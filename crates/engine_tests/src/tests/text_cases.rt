@@ -7,7 +7,7 @@ use injector::{Items, ItemsList, read_lines};
 use run_history::Case;
 use std::alloc::Global;
 use std::process::Abort;
-use topology::{Topology, read};
+use topology::{Folded, Routes, Topology, read};
 
 /// One count over windows of 60.
 pub const COUNT: &str =
@@ -48,9 +48,24 @@ pub(crate) fn lines(rt: &impl Abort, alloc: Global, events: &str) -> Items {
 
 /// The case of a topology of one injector over this event file.
 pub(crate) fn case(rt: &impl Abort, alloc: Global, topology: &str, events: &str) -> Case {
+    let (case, routes) = folded_case(rt, alloc, topology, events);
+    drop(routes);
+    case
+}
+
+/// The case of what is left of a topology of one injector without its weak computations, and the ways
+/// through these.
+pub(crate) fn folded_case(
+    rt: &impl Abort,
+    alloc: Global,
+    topology: &str,
+    events: &str,
+) -> (Case, Routes) {
     let items = items(rt, alloc, events);
-    let topology = topology_of(rt, alloc, topology);
-    made(rt, Case::of(alloc, topology, items))
+    let stated = topology_of(rt, alloc, topology);
+    let Folded { topology, routes } = made(rt, stated.fold(alloc));
+    drop(stated);
+    (made(rt, Case::of(alloc, topology, items)), routes)
 }
 
 // The lines of an event file, as those of the one injector.

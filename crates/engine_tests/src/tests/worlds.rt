@@ -6,6 +6,7 @@ mod faults;
 mod fixtures;
 mod leases;
 mod messages;
+mod relays;
 mod tables;
 mod timers;
 mod turns;

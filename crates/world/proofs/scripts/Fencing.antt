@@ -6,6 +6,7 @@ use Rattle.std.proofs.lemmas.Bool.{cases_lt}
 use Rattle.std.proofs.lemmas.List.{append-nil}
 use Rattle.mw_types.specs.declared.entry.Entry.{Entry}
 use Rattle.mw_types.specs.declared.entry.Entry.TheVariants as entries
+use Rattle.mw_types.specs.declared.identity.RecordId.{RecordId}
 use Rattle.mw_types.specs.declared.identity.RowName.{RowName}
 use Rattle.mw_types.specs.declared.timer.Timer.{Timer}
 use Rattle.key_intervals.specs.Intervals.{covers, rows_covered}
@@ -30,9 +31,12 @@ use Rattle.node.specs.Workers.{Worker, where_passes, with_written}
 use Rattle.node.specs.declared.outcome.Outcome.TheVariants as outcomes
 use Rattle.outbox.specs.declared.outgoing.Outgoing.{Outgoing}
 use Rattle.outbox.specs.declared.outgoing.Outgoing.TheVariants as outgoing
-use Rattle.world.specs.scripts.Acts.{Deed, copy_message, deed_of, done_unless, fire, fire_due, fire_effects, fire_under, has_numbers, inject, inject_item, inject_next, least_timer, lose_message, may_forget, must_wait, nothing, purge, purge_first, purge_row, report_own, report_under, send_all, sent_after, stale_in, stays, take, take_again, take_in, take_message, take_new, take_out, write, write_effects, write_prepared, write_under, writes, world_after, world_then}
+use Rattle.world.specs.scripts.Acts.{Deed, copy_message, deed_of, done_unless, fire, fire_due, fire_effects, fire_under, has_numbers, inject, inject_item, inject_next, least_timer, lose_message, may_forget, must_wait, nothing, pass_on, passed_on, purge, purge_first, purge_row, relay_message, relay_next, report_own, report_under, send_all, sent_after, stale_in, stays, take, take_again, take_in, take_message, take_new, take_out, world_after, world_then, write, write_effects, write_prepared, write_under, writes}
 use Rattle.world.specs.scripts.Keeping.{AreClaimed}
-use Rattle.world.specs.scripts.Worlds.{World, in_flight, lease_of, lease_on, overtaken_by, row_known, row_of_message, rows_known, run_known, worker_of, world_on}
+use Rattle.world.specs.scripts.Worlds.{World, held_by, in_flight, is_next, lease_of, lease_on, overtaken_by, relays_on, row_known, row_of_message, rows_known, run_known, to_pass, worker_of, world_on}
+use Rattle.weak_relay.specs.Relays.{holds, with_id, without_id}
+use Rattle.std.specs.Prelude.{nat_lt, ◌||◌, ◌++◌, ◌∷◌, []}
+use Rattle.topology.specs.Folding.{RoutesView}
 use Rattle.plans.specs.declared.step.Step.{Step}
 use Rattle.plans.specs.declared.step.Step.TheVariants as steps
 use Rattle.world.proofs.scripts.Leases.{AreClaimed-first}
@@ -159,7 +163,7 @@ own-take shape world number message = own-option shape world number (take_messag
     (in_flight world.flight message) (λ taken there. let worker = worker_of world number in
     let lease = lease_on shape worker (row_of_message taken) in own-either shape world (nothing world number)
     (option_map_or (take_out shape number message world taken) lease (stays world number outcomes.NotMine)) tt
-    (own-mine shape world number message taken lease refl) (must_wait worker taken))
+    (own-mine shape world number message taken lease refl) (nat_lt 0 (to_pass world message) || must_wait worker taken))
 
 -- what is prepared
 own-write : (case : CaseShape) (world : World) (number : ℕ) → IsOwn case.topology world (write case number world)
@@ -218,6 +222,26 @@ own-purge shape world number interval topology = let worker = worker_of world nu
     }) refl refl))
     (is_some worker.prepared))
 
+-- a message that goes on
+own-pass_on : (shape : Shape) (world : World) (relay message : ℕ) (passed : Outgoing) (held : List RecordId)
+    → IsOwn shape world (pass_on relay message world passed held)
+own-pass_on shape world relay message passed held = own-either shape world (passed_on relay message world passed held)
+    (nothing world 0) tt tt (has_numbers world.flight 1)
+
+-- a message that comes to a relay
+own-relayed : (shape : Shape) (world : World) (relay message : ℕ) (next : Outgoing) → IsOwn shape world (relay_message relay message world next)
+own-relayed shape world relay message (outgoing.Deliver delivery sender) =
+    own-pass_on shape world relay message (outgoing.Deliver delivery sender) (with_id delivery.id (held_by world relay))
+own-relayed shape world relay message (outgoing.Ack to id) = own-either shape world
+    (pass_on relay message world (outgoing.Ack to id) (without_id id (held_by world relay)))
+    (lose_message message world (outgoing.Ack to id))
+    (own-pass_on shape world relay message (outgoing.Ack to id) (without_id id (held_by world relay))) tt (holds (held_by world relay) id)
+
+-- a relay that a message comes to next, or not
+own-relay : (shape : Shape) (world : World) (relay message : ℕ) (next : Outgoing) → IsOwn shape world (relay_next relay message world next)
+own-relay shape world relay message next = own-either shape world (relay_message relay message world next) (nothing world 0)
+    (own-relayed shape world relay message next) tt (is_next relay (relays_on world.routes next) next (to_pass world message))
+
 -- each step
 own-step : (case : CaseShape) (world : World) (step : Step) → IsTopology case.topology
     → IsOwn case.topology world (deed_of case world step)
@@ -233,12 +257,18 @@ own-step case world (steps.Report worker interval) topology = own-option case.to
     (report_own case worker world lease) (slice_get (intervals_of case.topology) lease.interval) (λ bounds there. tt))
 own-step case world (steps.Resend worker) topology = tt
 own-step case world (steps.Purge worker interval) topology = own-purge case.topology world worker interval topology
-own-step case world (steps.Repeat message) topology = own-option case.topology world 0 (copy_message world)
+own-step case world (steps.Repeat message) topology = own-option case.topology world 0 (copy_message message world)
     (in_flight world.flight message) (λ copied there. own-either case.topology world
-    (record (stays world 0 (outcomes.Copied (length world.flight))) { flight = sent_after world.flight (copied ∷ []) })
+    (record (stays world 0 (outcomes.Copied (length world.flight))) {
+      flight = sent_after world.flight (copied ∷ []);
+      left = world.left ++ to_pass world message ∷ [];
+    })
     (nothing world 0) tt tt (has_numbers world.flight 1))
 own-step case world (steps.Lose message) topology = own-option case.topology world 0 (lose_message message world)
     (in_flight world.flight message) (λ gone there. tt)
+own-step case world (steps.Relay relay message) topology = own-option case.topology world 0 (relay_next relay message world)
+    (in_flight world.flight message) (λ next there. own-relay case.topology world relay message next)
+own-step case world (steps.Forget relay) topology = tt
 own-step case world (steps.Crash worker) topology = tt
 
 -- ---- the history
@@ -285,8 +315,8 @@ fenced-step case topology world step both = let deed = deed_of case world step i
 )
 
 -- a whole script
-pub script-fenced : (case : CaseShape) (history : List Entry) (marks : List ℕ) (script : List Step) → IsTopology case.topology
-    → IsFenced case.topology history → IsFenced case.topology (world_after case (world_on history marks) script).history
-script-fenced case history marks script topology fenced =
-    (along_script case (IsFencedWorld case.topology) (fenced-step case topology) script (world_on history marks)
-    (AreClaimed-first history marks, fenced)).1
+pub script-fenced : (case : CaseShape) (routes : RoutesView) (history : List Entry) (marks : List ℕ) (script : List Step) → IsTopology case.topology
+    → IsFenced case.topology history → IsFenced case.topology (world_after case (world_on routes history marks) script).history
+script-fenced case routes history marks script topology fenced =
+    (along_script case (IsFencedWorld case.topology) (fenced-step case topology) script (world_on routes history marks)
+    (AreClaimed-first routes history marks, fenced)).1

@@ -32,16 +32,16 @@ use Rattle.node.specs.declared.outcome.Outcome.{Outcome}
 use Rattle.outbox.specs.declared.outgoing.Outgoing.{Outgoing}
 use Rattle.outbox.specs.declared.outgoing.Outgoing.TheVariants as outgoing
 use Rattle.world.specs.scripts.Acts.{Acted, Deed, done, fire, inject, purge, without_message, write, writes}
-use Rattle.world.specs.scripts.Worlds.{World, worker_of}
+use Rattle.world.specs.scripts.Worlds.{World, to_pass, worker_of}
 use Rattle.plans.specs.declared.step.Step.{Step}
 use Rattle.plans.specs.declared.step.Step.TheVariants as steps
 use Rattle.world.proofs.scripts.OwnerLaws.{done-current}
 use Rattle.world.specs.scripts.Standing.{FitsOwn, IsWorld}
 use Rattle.world.specs.scripts.Stepping.{AppendsOne, WouldAppend}
 use Rattle.world.specs.scripts.WorkerCalls.{IsFullOn, IsFullStep, IsFullTaking, answered_in_place}
-use Rattle.world.specs.scripts.WorldStates.{WorldState, world_of}
+use Rattle.world.specs.scripts.WorldStates.{WorldState, noteless, world_of}
 use Rattle.world.proofs.scripts.ActsOnLaws.{acting}
-use Rattle.world.proofs.scripts.FlightLaws.{flight-at, noteless}
+use Rattle.world.proofs.scripts.FlightLaws.{flight-at}
 use Rattle.world.proofs.scripts.TakeLaws.{left-none}
 use Rattle.world.proofs.scripts.WorldSteps.{at-world, told-then}
 use Rattle.world.proofs.scripts.deeds.Left.{deed_asked, moved-alone, with_flight}
@@ -189,7 +189,7 @@ pub ack-full : (case : CaseShape) (old new : BookView) (was : NodeView) (to : Ro
     → answered_in_place old.case.topology (worker_at was) (outgoing.Ack to id) ≡ None → HasLooked (own_view old) (own_view new)
     → FailsAsked (own_view old) (own_view new) (ack_asked case.topology was (outgoing.Ack to id)) why
     → (number : ℕ) → IsFullTaking number (outgoing.Ack to id) old was why
-ack-full case old new was to id why same lawful fits left looked fails number = λ full. if-there old.rows (λ told world at flying.
+ack-full case old new was to id why same lawful fits left looked fails number = λ full. if-there old.rows (λ told world at arrived.
     let shape = old.case.topology in
     let acts = acting old was world told lawful fits at in
     let on = takes.some-there (held_on shape was.held to) (left-none shape was (outgoing.Ack to id) left).1 in
@@ -203,7 +203,7 @@ ack-full case old new was to id why same lawful fits left looked fails number = 
     (without_message number world.flight) at.history looked failed in (
       one.0,
       ap (λ d. (done shape world d).1.history)
-          (takes.ack-is old.case old world was.number number was to id on.0 acts flying on.1) ∙ one.1,
+          (takes.ack-is old.case old world was.number number was to id on.0 acts arrived on.1) ∙ one.1,
     ))
 
 -- ---- a world
@@ -217,11 +217,12 @@ full-at step state number was why is at on full =
 -- so would one that takes a message
 pub taken-full : (state : WorldState) (number message : ℕ) (was : NodeView) (found : Message NoNote) (why : NodeFault) → IsWorld state
     → slice_get state.nodes number ≡ Some was → unwrap_or (slice_get state.flight message) None ≡ Some found
-    → ((n : ℕ) → IsFullTaking n (outgoing_of found) state.book was why) → why ≡ faults.HistoryFull
+    → to_pass (world_of state) message ≡ 0 → ((n : ℕ) → IsFullTaking n (outgoing_of found) state.book was why) → why ≡ faults.HistoryFull
     → WouldAppend (steps.Take number message) state
-taken-full state number message was found why is at there on full = told-then state.book.rows
+taken-full state number message was found why is at there passed on full = told-then state.book.rows
     (λ each. subst (λ (n : ℕ). AppendsOne state.book.case (world_of state) (steps.Take n message)) (is.numbered number was at)
-    (each (world_of state) (at-world state number was is at) (flight-at state.flight message ∙ ap noteless there)))
+    (each (world_of state) (at-world state number was is at)
+    (record { flying = flight-at state.flight message ∙ ap noteless there; passed = passed })))
     (on message full)
 
 -- and none that fails for lack of memory alone

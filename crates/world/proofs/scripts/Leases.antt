@@ -6,6 +6,7 @@ use Rattle.std.proofs.lemmas.Bool.{cases_eq, eq-eqb, ne_eqb}
 use Rattle.mw_types.specs.declared.entry.Entry.{Entry}
 use Rattle.mw_types.specs.declared.entry.Entry.TheVariants as entries
 use Rattle.mw_types.specs.declared.identity.RowName.{RowName}
+use Rattle.topology.specs.Folding.{RoutesView}
 use Rattle.topology.specs.Shapes.{Shape}
 use Rattle.run_history.specs.Made.{row_written}
 use Rattle.run_history.proofs.Beginnings.{slice_get-last, slice_get-more}
@@ -128,5 +129,5 @@ idle-none (suc count) zero i seq is = none_some seq is
 idle-none (suc count) (suc n) i seq is = idle-none count n i seq is
 
 -- before a script no worker has a lease
-pub AreClaimed-first : (history : List Entry) (marks : List ℕ) → AreClaimed (world_on history marks)
-AreClaimed-first history marks n i seq is = absurd (idle-none 16 n i seq is)
+pub AreClaimed-first : (routes : RoutesView) (history : List Entry) (marks : List ℕ) → AreClaimed (world_on routes history marks)
+AreClaimed-first routes history marks n i seq is = absurd (idle-none 16 n i seq is)

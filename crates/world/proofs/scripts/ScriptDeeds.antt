@@ -25,9 +25,13 @@ use Rattle.node.specs.declared.outcome.Outcome.{Outcome}
 use Rattle.node.specs.declared.outcome.Outcome.TheVariants as outcomes
 use Rattle.outbox.specs.declared.outgoing.Outgoing.{Outgoing}
 use Rattle.outbox.specs.declared.outgoing.Outgoing.TheVariants as outgoing
-use Rattle.world.specs.scripts.Acts.{Deed, becomes, claim, copy, copy_message, crash, deed_of, fire, fire_due, fire_effects, fire_under, has_numbers, inject, inject_item, inject_next, least_timer, lose, lose_message, may_forget, must_wait, nothing, pending_known, purge, purge_first, purge_row, report, report_own, report_under, resend, send, send_all, sent_after, stays, take, take_again, take_in, take_message, take_new, take_out, write, write_effects, write_prepared, write_under, writes}
+use Rattle.world.specs.scripts.Acts.{Deed, becomes, claim, copy, copy_message, crash, deed_of, fire, fire_due, fire_effects, fire_under, has_numbers, inject, inject_item, inject_next, least_timer, lose, lose_message, may_forget, must_wait, nothing, pass_on, passed_on, pending_known, purge, purge_first, purge_row, relay, relay_message, relay_next, report, report_own, report_under, resend, send, send_all, sent_after, stays, take, take_again, take_in, take_message, take_new, take_out, write, write_effects, write_prepared, write_under, writes}
 use Rattle.world.specs.scripts.Keeping.{KeepsMessages}
-use Rattle.world.specs.scripts.Worlds.{World, in_flight, lease_of, lease_on, row_known, row_of_message, rows_known, run_known, worker_of}
+use Rattle.world.specs.scripts.Worlds.{World, held_by, in_flight, is_next, lease_of, lease_on, relays_on, row_known, row_of_message, rows_known, run_known, to_pass, worker_of}
+use Rattle.weak_relay.specs.Relays.{holds, with_id, without_id}
+use Rattle.mw_types.specs.declared.identity.RecordId.{RecordId}
+use Rattle.std.specs.Prelude.{nat_lt, ◌||◌, ◌++◌, List, slice_set}
+use Rattle.world.proofs.scripts.Messages.{KeepsMessages-trans}
 use Rattle.plans.specs.declared.step.Step.{Step}
 use Rattle.plans.specs.declared.step.Step.TheVariants as steps
 use Rattle.world.proofs.scripts.Leases.{LeasesAfter, LeasesFrom, LeasesFrom-claim}
@@ -167,7 +171,8 @@ keeps-take_message : (shape : Shape) (world : World) (number message : ℕ) (tak
 keeps-take_message shape world number message taken = let worker = worker_of world number in
     let lease = lease_on shape worker (row_of_message taken) in keeps-either world (nothing world number)
     (option_map_or (take_out shape number message world taken) lease (stays world number outcomes.NotMine))
-    (keeps-nothing world number) (keeps-mine shape world number message taken lease) (must_wait worker taken)
+    (keeps-nothing world number) (keeps-mine shape world number message taken lease)
+    (nat_lt 0 (to_pass world message) || must_wait worker taken)
 
 -- a message
 keeps-take : (shape : Shape) (world : World) (number message : ℕ) → IsKeeping world (take shape number message world)
@@ -175,10 +180,12 @@ keeps-take shape world number message = keeps-option world number (take_message 
     (keeps-take_message shape world number message) (in_flight world.flight message)
 
 -- a message that is copied
-keeps-copied : (world : World) (copied : Outgoing) → IsKeeping world (record (stays world 0 (outcomes.Copied (length world.flight))) {
-  flight = sent_after world.flight (copied ∷ []);
-})
-keeps-copied world copied = record {
+keeps-copied : (world : World) (message : ℕ) (copied : Outgoing)
+    → IsKeeping world (record (stays world 0 (outcomes.Copied (length world.flight))) {
+      flight = sent_after world.flight (copied ∷ []);
+      left = world.left ++ to_pass world message ∷ [];
+    })
+keeps-copied world message copied = record {
   marks = refl;
   flight = KeepsMessages-append world.flight (map Some (copied ∷ []));
   leases = tt;
@@ -186,10 +193,11 @@ keeps-copied world copied = record {
 
 -- a copy
 keeps-copy : (world : World) (message : ℕ) → IsKeeping world (copy message world)
-keeps-copy world message = keeps-option world 0 (copy_message world)
+keeps-copy world message = keeps-option world 0 (copy_message message world)
     (λ copied. keeps-either world (record (stays world 0 (outcomes.Copied (length world.flight))) {
       flight = sent_after world.flight (copied ∷ []);
-    }) (nothing world 0) (keeps-copied world copied) (keeps-nothing world 0) (has_numbers world.flight 1))
+      left = world.left ++ to_pass world message ∷ [];
+    }) (nothing world 0) (keeps-copied world message copied) (keeps-nothing world 0) (has_numbers world.flight 1))
     (in_flight world.flight message)
 
 -- a loss
@@ -274,6 +282,34 @@ keeps-purge : (shape : Shape) (world : World) (number interval : ℕ) → IsKeep
 keeps-purge shape world number interval = keeps-option world number (purge_first shape number world)
     (keeps-purge_first shape world number) (lease_of (worker_of world number) interval)
 
+-- a message that goes on
+keeps-pass_on : (world : World) (relay message : ℕ) (passed : Outgoing) (held : List RecordId)
+    → IsKeeping world (pass_on relay message world passed held)
+keeps-pass_on world relay message passed held = keeps-either world (passed_on relay message world passed held) (nothing world 0)
+    (record {
+      marks = refl;
+      flight = KeepsMessages-trans world.flight (slice_set world.flight message None) (slice_set world.flight message None ++ map Some (passed ∷ []))
+          (KeepsMessages-without world.flight message) (KeepsMessages-append (slice_set world.flight message None) (map Some (passed ∷ [])));
+      leases = tt;
+    }) (keeps-nothing world 0) (has_numbers world.flight 1)
+
+-- a message that comes to a relay
+keeps-relayed : (world : World) (relay message : ℕ) (next : Outgoing) → IsKeeping world (relay_message relay message world next)
+keeps-relayed world relay message (outgoing.Deliver delivery sender) =
+    keeps-pass_on world relay message (outgoing.Deliver delivery sender) (with_id delivery.id (held_by world relay))
+keeps-relayed world relay message (outgoing.Ack to id) = keeps-either world
+    (pass_on relay message world (outgoing.Ack to id) (without_id id (held_by world relay)))
+    (lose_message message world (outgoing.Ack to id))
+    (keeps-pass_on world relay message (outgoing.Ack to id) (without_id id (held_by world relay)))
+    (record { marks = refl; flight = KeepsMessages-without world.flight message; leases = tt }) (holds (held_by world relay) id)
+
+-- a relay
+keeps-relay : (world : World) (number message : ℕ) → IsKeeping world (relay number message world)
+keeps-relay world number message = keeps-option world 0 (relay_next number message world)
+    (λ next. keeps-either world (relay_message number message world next) (nothing world 0) (keeps-relayed world number message next)
+    (keeps-nothing world 0) (is_next number (relays_on world.routes next) next (to_pass world message)))
+    (in_flight world.flight message)
+
 -- a crash
 keeps-crash : (world : World) (number : ℕ) → IsKeeping world (crash number world)
 keeps-crash world number = record {
@@ -295,4 +331,7 @@ keeps-step case world (steps.Resend worker) = keeps-resend case.topology world w
 keeps-step case world (steps.Purge worker interval) = keeps-purge case.topology world worker interval
 keeps-step case world (steps.Repeat message) = keeps-copy world message
 keeps-step case world (steps.Lose message) = keeps-lose world message
+keeps-step case world (steps.Relay relay message) = keeps-relay world relay message
+keeps-step case world (steps.Forget relay) =
+    record { marks = refl; flight = KeepsMessages-itself world.flight; leases = tt }
 keeps-step case world (steps.Crash worker) = keeps-crash world worker

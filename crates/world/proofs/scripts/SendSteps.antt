@@ -1,5 +1,5 @@
 -- The step by which a worker sends all that it has to send.
-use Rattle.std.proofs.Common.{◌≡◌, ◌∙◌, ◌+◌, ◌^◌, ◌++◌, ℕ, true, false, List, [], length, refl, sym, ap, subst}
+use Rattle.std.proofs.Common.{◌≡◌, ◌∙◌, ◌+◌, ◌^◌, ◌++◌, ℕ, true, false, List, [], length, refl, sym, ap, subst, arith}
 use Rattle.std.specs.Prelude.{Option, Some, All, if◌then◌else◌, map, nat_le, slice_set, unwrap_or}
 use Rattle.std.proofs.lemmas.List.{append-nil, length-map, set-get_or}
 use Rattle.std.proofs.lemmas.List.Elements.{All-append, All-map}
@@ -16,11 +16,12 @@ use Rattle.node.specs.declared.outcome.Outcome.TheVariants as outcomes
 use Rattle.outbox.specs.declared.outgoing.Outgoing.{Outgoing}
 use Rattle.node.proofs.FitLaws.{grown_looked, looked-moved, looked_not, more-looked}
 use Rattle.world.specs.scripts.Acts.{done, has_numbers, nothing, send_all}
-use Rattle.world.specs.scripts.Worlds.{World, worker_of}
+use Rattle.world.specs.scripts.Relaying.{sent_left}
+use Rattle.world.specs.scripts.Worlds.{World, relays_on, worker_of}
 use Rattle.world.specs.scripts.Standing.{FitsOwn, IsFlying}
-use Rattle.world.specs.scripts.WorkerCalls.{HasCalled, IsSending, IsWorldAt, SendsOn, world_with}
-use Rattle.world.specs.scripts.WorldStates.{flight_of}
-use Rattle.world.proofs.scripts.FlightLaws.{noteless}
+use Rattle.world.specs.scripts.WorkerCalls.{HasCalled, HasSent, IsFlightOf, IsSending, IsWorldAt, SendsOn, world_with}
+use Rattle.world.specs.scripts.WorldStates.{flight_of, noteless}
+use Rattle.world.proofs.scripts.OnWays.{sent_left-more, sent_left-none}
 use Rattle.world.proofs.scripts.WorldStands.{flying-more}
 use Rattle.world.proofs.scripts.TakeSteps.{stays-done}
 use Rattle.world.proofs.drains.TurnLaws.{stepped-looked}
@@ -72,6 +73,19 @@ pub all-sent : (old new : BookView) (was node : NodeView) (flight after : List (
 all-sent old new was node flight after sending none =
     sym (append-nil after) ∙ ap (λ (l : List Outgoing). after ++ map Some l) (sym none) ∙ sending.sent
 
+-- it came behind what was in flight
+pub sent-behind : (old new : BookView) (was node : NodeView) (flight after : List (Option Outgoing))
+    → IsSending old was flight new node after → node.outbox ≡ [] → HasSent (length was.outbox) flight after
+sent-behind old new was node flight after sending none = record {
+  sent = was.outbox;
+  behind = all-sent old new was node flight after sending none;
+  few = omega arith;
+}
+
+-- or nothing came
+pub sent-none : (most : ℕ) (flight : List (Option Outgoing)) → HasSent most flight flight
+sent-none most flight = record { sent = []; behind = sym (append-nil flight); few = omega arith }
+
 -- what is in flight then may have been sent
 pub sent-flying : (old new : BookView) (was node : NodeView) (flight after : List (Option Outgoing)) → FitsOwn old was
     → IsSending old was flight new node after → node.outbox ≡ [] → All (IsFlying old) flight → All (IsFlying new) after
@@ -89,23 +103,14 @@ worker-is book was world at = ap (λ (o : Option Worker). unwrap_or o idle) at.t
 
 -- a scripted world in which nothing was done
 kept-world : (book : BookView) (was : NodeView) (world : World) (flight : List (Option Outgoing)) → IsWorldAt book was world
-    → world.flight ≡ flight → record (world_with book was.number was world) { flight = flight } ≡ world
-kept-world book was world flight at same =
-    ap (λ (h : List Entry). record {
-      history = h;
-      marks = book.marks;
-      workers = slice_set world.workers was.number (worker_at was);
-      flight = flight;
-    }) (sym at.history)
-    ∙ ap (λ (m : List ℕ). record {
-      history = world.history;
-      marks = m;
-      workers = slice_set world.workers was.number (worker_at was);
-      flight = flight;
-    }) (sym at.marks)
-    ∙ ap (λ (ws : List Worker). record { history = world.history; marks = world.marks; workers = ws; flight = flight }) still
-    ∙ ap (λ (f : List (Option Outgoing)). record { history = world.history; marks = world.marks; workers = world.workers; flight = f })
-    (sym same)
+    → IsFlightOf world flight
+    → record (world_with book was.number was world) { flight = flight; left = sent_left world.routes flight world.left } ≡ world
+kept-world book was world flight at is =
+    let stood = sym at.history in
+    let marked = sym at.marks in
+    let flies = sym is.same in
+    let goes = sent_left-none world.routes flight world.left is.sized in
+    λ i. record world { history = stood i; marks = marked i; workers = still i; flight = flies i; left = goes i }
   where
     still : slice_set world.workers was.number (worker_at was) ≡ world.workers
     still = ap (slice_set world.workers was.number)
@@ -125,44 +130,60 @@ numbers-are book was world flight count at same counted =
 pub send-full : (book : BookView) (was : NodeView) (flight : List (Option (Message NoNote))) (count : ℕ) → count ≡ length was.outbox
     → nat_le (length flight + count) (2 ^ 32) ≡ false
     → SendsOn book was (flight_of flight) book was (flight_of flight) outcomes.Nothing
-send-full book was flight count counted full world at same =
-    ap (λ (w : World). (outcomes.Nothing, w)) (kept-world book was world (flight_of flight) at same)
+send-full book was flight count counted full world at is =
+    ap (λ (w : World). (outcomes.Nothing, w)) (kept-world book was world (flight_of flight) at is)
     ∙ stays-done book.case.topology world was.number outcomes.Nothing
     ∙ ap (λ b. done book.case.topology world (if b then send_all was.number world else nothing world was.number))
-    (sym (numbers-are book was world flight count at same counted ∙ full))
+    (sym (numbers-are book was world flight count at is.same counted ∙ full))
 
 -- all that it has to send is sent
 pub send-more : (old new : BookView) (was node : NodeView) (flight after : List (Option (Message NoNote))) (count : ℕ)
     → IsSending old was (flight_of flight) new node (flight_of after) → node.outbox ≡ [] → count ≡ length was.outbox
     → nat_le (length flight + count) (2 ^ 32) ≡ true
     → SendsOn old was (flight_of flight) new node (flight_of after) (outcomes.Sent count)
-send-more old new was node flight after count sending none counted room world at same =
-    left new.history new.marks (worker_at node) (flight_of after) count
+send-more old new was node flight after count sending none counted room world at is =
+    left new.history new.marks (worker_at node) (flight_of after) (sent_left world.routes (flight_of after) world.left) count
     ((stepped-looked old new sending.looked).appended ∙ sym at.history ∙ sym (append-nil world.history))
     (sending.marks ∙ sym at.marks)
     (ap worker_at (sending.rest ∙ ap (λ (l : List Outgoing). let n : NodeView = record was { outbox = l } in n) none)
-    ∙ ap (λ (w : Worker). let v : Worker = record w { outbox = [] } in v) (sym is))
-    (all-sent old new was node (flight_of flight) (flight_of after) sending none
-    ∙ ap (λ (f : List (Option Outgoing)). f ++ map Some was.outbox) (sym same)
-    ∙ ap (λ (w : Worker). world.flight ++ map Some w.outbox) (sym is))
-    (counted ∙ ap (λ (w : Worker). length w.outbox) (sym is))
+    ∙ ap (λ (w : Worker). let v : Worker = record w { outbox = [] } in v) (sym here))
+    behind
+    (ap (λ f. sent_left world.routes f world.left) behind
+    ∙ sent_left-more world.routes world.flight world.left (worker_of world was.number).outbox (is.sized ∙ ap length (sym is.same)))
+    (counted ∙ ap (λ (w : Worker). length w.outbox) (sym here))
     ∙ ap (λ b. done old.case.topology world (if b then send_all was.number world else nothing world was.number))
-    (sym (numbers-are old was world flight count at same counted ∙ room))
+    (sym (numbers-are old was world flight count at is.same counted ∙ room))
   where
-    is : worker_of world was.number ≡ worker_at was
-    is = worker-is old was world at
+    here : worker_of world was.number ≡ worker_at was
+    here = worker-is old was world at
 
-    left : (h : List Entry) (m : List ℕ) (w : Worker) (f : List (Option Outgoing)) (n : ℕ) → h ≡ world.history ++ [] → m ≡ world.marks
-        → w ≡ record (worker_of world was.number) { outbox = [] }
-        → f ≡ world.flight ++ map Some (worker_of world was.number).outbox → n ≡ length (worker_of world was.number).outbox
-        → (outcomes.Sent n, record { history = h; marks = m; workers = slice_set world.workers was.number w; flight = f })
-        ≡ done old.case.topology world (send_all was.number world)
-    left h m w f n hs ms ws fs ns = λ i. (
+    behind : flight_of after ≡ world.flight ++ map Some (worker_of world was.number).outbox
+    behind = all-sent old new was node (flight_of flight) (flight_of after) sending none
+        ∙ ap (λ (f : List (Option Outgoing)). f ++ map Some was.outbox) (sym is.same)
+        ∙ ap (λ (w : Worker). world.flight ++ map Some w.outbox) (sym here)
+
+    left : (h : List Entry) (m : List ℕ) (w : Worker) (f : List (Option Outgoing)) (l : List ℕ) (n : ℕ) → h ≡ world.history ++ []
+        → m ≡ world.marks → w ≡ record (worker_of world was.number) { outbox = [] }
+        → f ≡ world.flight ++ map Some (worker_of world was.number).outbox
+        → l ≡ world.left ++ map (λ (o : Outgoing). length (relays_on world.routes o)) (worker_of world was.number).outbox
+        → n ≡ length (worker_of world was.number).outbox
+        → (
+          outcomes.Sent n,
+          record world {
+            history = h;
+            marks = m;
+            workers = slice_set world.workers was.number w;
+            flight = f;
+            left = l;
+          },
+        ) ≡ done old.case.topology world (send_all was.number world)
+    left h m w f l n hs ms ws fs ls ns = λ i. (
       outcomes.Sent (ns i),
-      record {
+      record world {
         history = hs i;
         marks = ms i;
         workers = slice_set world.workers was.number (ws i);
         flight = fs i;
+        left = ls i;
       },
     )

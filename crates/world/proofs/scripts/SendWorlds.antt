@@ -9,34 +9,58 @@ use Rattle.node.specs.declared.message.Message.{Message}
 use Rattle.node.specs.declared.outcome.NodeFault.TheVariants as faults
 use Rattle.node.specs.declared.outcome.Outcome.{Outcome}
 use Rattle.world.specs.scripts.Acts.{act}
+use Rattle.world.specs.scripts.Relaying.{sent_left}
 use Rattle.world.specs.scripts.Worlds.{World}
 use Rattle.plans.specs.declared.step.Step.TheVariants as steps
 use Rattle.world.specs.scripts.Standing.{IsWorld}
 use Rattle.world.specs.scripts.Stepping.{HasActed}
-use Rattle.world.specs.scripts.WorkerCalls.{SendsOn, world_with}
+use Rattle.world.specs.scripts.WorkerCalls.{IsFlightOf, SendsOn, world_with}
 use Rattle.world.specs.scripts.WorldStates.{WorldState, flight_of, world_of}
+use Rattle.world.proofs.scripts.OnWays.{on_way-sized, sent_left-none}
 use Rattle.world.proofs.scripts.WorldSteps.{at-world, changed, rested-at, world-changed}
+
+-- a world in which one worker has sent all that it had to send, and it is noted how far that has to go
+abbrev pub sent_world : WorldState → BookView → ℕ → NodeView → List (Option (Message NoNote)) → WorldState
+sent_world state book number node after = record (changed state book number node after) {
+  left = sent_left state.routes (flight_of after) state.left;
+}
+
+-- the messages in flight of a world, beside which stands what they have to pass
+pub flight-world : (state : WorldState) → IsWorld state → IsFlightOf (world_of state) (flight_of state.flight)
+flight-world state is = record { same = refl; sized = on_way-sized state.routes (flight_of state.flight) state.left is.on_way }
 
 -- it did as in the script
 pub sent-at : (state : WorldState) (book : BookView) (number : ℕ) (was node : NodeView) (after : List (Option (Message NoNote)))
     (outcome : Outcome) → IsWorld state → slice_get state.nodes number ≡ Some was
     → SendsOn state.book was (flight_of state.flight) book node (flight_of after) outcome
-    → HasActed (steps.Send number) state (changed state book number node after) outcome
+    → HasActed (steps.Send number) state (sent_world state book number node after) outcome
 sent-at state book number was node after outcome is at sends = if-there state.book.rows
-    (λ told. ap (λ (w : World). (outcome, w)) (world-changed state book number node after
-    ∙ ap (λ (n : ℕ). let w : World = record (world_with book n node (world_of state)) { flight = flight_of after } in w)
-    (sym (is.numbered number was at)))
-    ∙ sends (world_of state) (at-world state number was is at) refl
+    (λ told. ap (λ (w : World). (outcome, noted w)) (world-changed state book number node after)
+    ∙ ap (λ (n : ℕ). (outcome, noted (record (world_with book n node (world_of state)) { flight = flight_of after })))
+    (sym (is.numbered number was at))
+    ∙ sends (world_of state) (at-world state number was is at) (flight-world state is)
     ∙ ap (λ (n : ℕ). act state.book.case (world_of state) (steps.Send n)) (is.numbered number was at))
+  where
+    noted : World → World
+    noted w = record w { left = sent_left state.routes (flight_of after) state.left }
 
 -- nothing was done
 pub unsent-at : (state : WorldState) (book : BookView) (number : ℕ) (was node : NodeView) (after : List (Option (Message NoNote)))
-    → slice_get state.nodes number ≡ Some was → book ≡ state.book → node ≡ was → after ≡ state.flight
-    → world_of (changed state book number node after) ≡ world_of state
-unsent-at state book number was node after at same kept unchanged =
-    rested-at state book number was node after at (record {
+    → IsWorld state → slice_get state.nodes number ≡ Some was → book ≡ state.book → node ≡ was → after ≡ state.flight
+    → world_of (sent_world state book number node after) ≡ world_of state
+unsent-at state book number was node after is at same kept unchanged =
+    ap noted (rested-at state book number was node after at (record {
       history = ap (λ (b : BookView). b.history) same;
       marks = ap (λ (b : BookView). b.marks) same;
       kept = ap worker_at kept;
-    })
-    ∙ ap (λ (f : List (Option (Message NoNote))). let w : World = record (world_of state) { flight = flight_of f } in w) unchanged
+    }))
+    ∙ ap (λ (f : List (Option (Message NoNote))). let w : World = record (world_of state) {
+      flight = flight_of f;
+      left = sent_left state.routes (flight_of f) state.left;
+    } in w) unchanged
+    ∙ ap (λ (l : List ℕ). let w : World = record (world_of state) { left = l } in w)
+    (sent_left-none state.routes (flight_of state.flight) state.left
+    (on_way-sized state.routes (flight_of state.flight) state.left is.on_way))
+  where
+    noted : World → World
+    noted w = record w { left = sent_left state.routes (flight_of after) state.left }

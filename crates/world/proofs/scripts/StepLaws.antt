@@ -51,19 +51,21 @@ faulted-rows step old new was is gone kept =
 -- ---- a step that a worker does without a message
 
 -- the worker is one of sixteen
-pub alone-few : (shape : Shape) (number : ℕ) (step : Step) → IsStep shape step → IsAlone number step → number < 16
-alone-few shape number (steps.Claim worker interval) is alone = subst (λ n. n < 16) alone is.0
-alone-few shape number (steps.Inject worker part) is alone = subst (λ n. n < 16) alone is.0
-alone-few shape number (steps.Send worker) is alone = absurd alone
-alone-few shape number (steps.Take worker message) is alone = absurd alone
-alone-few shape number (steps.Write worker) is alone = subst (λ n. n < 16) alone is
-alone-few shape number (steps.Fire worker part) is alone = subst (λ n. n < 16) alone is.0
-alone-few shape number (steps.Report worker interval) is alone = subst (λ n. n < 16) alone is.0
-alone-few shape number (steps.Resend worker) is alone = subst (λ n. n < 16) alone is
-alone-few shape number (steps.Purge worker interval) is alone = subst (λ n. n < 16) alone is.0
-alone-few shape number (steps.Repeat message) is alone = absurd alone
-alone-few shape number (steps.Lose message) is alone = absurd alone
-alone-few shape number (steps.Crash worker) is alone = subst (λ n. n < 16) alone is
+pub alone-few : (shape : Shape) (weaks number : ℕ) (step : Step) → IsStep shape weaks step → IsAlone number step → number < 16
+alone-few shape weaks number (steps.Claim worker interval) is alone = subst (λ n. n < 16) alone is.0
+alone-few shape weaks number (steps.Inject worker part) is alone = subst (λ n. n < 16) alone is.0
+alone-few shape weaks number (steps.Send worker) is alone = absurd alone
+alone-few shape weaks number (steps.Take worker message) is alone = absurd alone
+alone-few shape weaks number (steps.Write worker) is alone = subst (λ n. n < 16) alone is
+alone-few shape weaks number (steps.Fire worker part) is alone = subst (λ n. n < 16) alone is.0
+alone-few shape weaks number (steps.Report worker interval) is alone = subst (λ n. n < 16) alone is.0
+alone-few shape weaks number (steps.Resend worker) is alone = subst (λ n. n < 16) alone is
+alone-few shape weaks number (steps.Purge worker interval) is alone = subst (λ n. n < 16) alone is.0
+alone-few shape weaks number (steps.Repeat message) is alone = absurd alone
+alone-few shape weaks number (steps.Lose message) is alone = absurd alone
+alone-few shape weaks number (steps.Relay relay message) is alone = absurd alone
+alone-few shape weaks number (steps.Forget relay) is alone = absurd alone
+alone-few shape weaks number (steps.Crash worker) is alone = subst (λ n. n < 16) alone is
 
 -- a fault leaves the world
 pub faulted-alone : (number : ℕ) (step : Step) (old new : WorldState) → IsAlone number step → world_of new ≡ world_of old
@@ -79,4 +81,6 @@ faulted-alone number (steps.Resend worker) old new alone same = same
 faulted-alone number (steps.Purge worker interval) old new alone same = same
 faulted-alone number (steps.Repeat message) old new alone same = absurd alone
 faulted-alone number (steps.Lose message) old new alone same = absurd alone
+faulted-alone number (steps.Relay relay message) old new alone same = absurd alone
+faulted-alone number (steps.Forget relay) old new alone same = absurd alone
 faulted-alone number (steps.Crash worker) old new alone same = same

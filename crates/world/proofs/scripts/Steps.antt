@@ -4,6 +4,7 @@ use Rattle.std.specs.Prelude.{Option, None, Some}
 use Rattle.std.specs.Option.{option_map, option_to_list}
 use Rattle.std.proofs.lemmas.List.{append-nil, length-set}
 use Rattle.mw_types.specs.declared.entry.Entry.{Entry}
+use Rattle.topology.specs.Folding.{RoutesView}
 use Rattle.topology.specs.Shapes.{Shape}
 use Rattle.run_history.specs.Cases.{CaseShape}
 use Rattle.run_history.specs.Fences.{Begins}
@@ -139,7 +140,7 @@ pub script-keeps : (case : CaseShape) (world : World) (script : List Step) → K
 script-keeps case world script = along_script case (KeepsWorld world) (kept-then case world) script world (kept-itself world)
 
 -- a script leaves leases that are claims of their workers
-pub script-claimed : (case : CaseShape) (history : List Entry) (marks : List ℕ) (script : List Step)
-    → AreClaimed (world_after case (world_on history marks) script)
-script-claimed case history marks script =
-    along_script case AreClaimed (step-claimed case) script (world_on history marks) (AreClaimed-first history marks)
+pub script-claimed : (case : CaseShape) (routes : RoutesView) (history : List Entry) (marks : List ℕ) (script : List Step)
+    → AreClaimed (world_after case (world_on routes history marks) script)
+script-claimed case routes history marks script =
+    along_script case AreClaimed (step-claimed case) script (world_on routes history marks) (AreClaimed-first routes history marks)

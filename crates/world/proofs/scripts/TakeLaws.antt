@@ -118,11 +118,11 @@ pub handle-on : (case : CaseShape) (old new : BookView) (was node : NodeView) (d
     → (outcome, worker_at node) ≡ taken_from case.topology was (outgoing.Deliver delivery sender)
     → (number : ℕ) → TakesOn number (outgoing.Deliver delivery sender) old was new node outcome
 handle-on case old new was node delivery sender outcome same lawful marks fits left looked is number =
-    if-there old.rows (λ told world at flying.
+    if-there old.rows (λ told world at arrived.
     let taken = outgoing.Deliver delivery sender in
     let may = left-none old.case.topology was taken left in
     prepare-acts old.case old new world was.number was node number taken outcome (acting old was world told lawful fits at)
-    (marks.same refl) flying tt
+    (marks.same refl) arrived tt
     (free-of old.case (own_view old) was fits (none-of (sending_of was) may.0)) may.1 looked
     (is ∙ ap (λ (k : CaseShape). taken_from k.topology was taken) same))
 
@@ -133,7 +133,7 @@ pub ack-on : (case : CaseShape) (old new : BookView) (was node : NodeView) (take
     → AnswersAckOf case.topology (own_view old) (own_view new) taken was node outcome
     → (number : ℕ) → TakesOn number taken old was new node outcome
 ack-on case old new was node taken outcome same lawful marks fits left ack answers number =
-    if-there old.rows (λ told world at flying.
+    if-there old.rows (λ told world at arrived.
     ack-acts old.case old new world was.number was node number taken outcome (acting old was world told lawful fits at)
-    (marks.same refl) flying ack (left-none old.case.topology was taken left).1
+    (marks.same refl) arrived ack (left-none old.case.topology was taken left).1
     (subst (λ (k : CaseShape). AnswersAckOf k.topology (own_view old) (own_view new) taken was node outcome) same answers))

@@ -8,6 +8,8 @@ use Rattle.std.proofs.lemmas.List.Elements.{All-from_get_or, All-from_recursion,
 use Rattle.std.proofs.lemmas.Option.{get_or_from_slice_get, slice_get-get_or, slice_get-map, slice_get_within}
 use Rattle.mw_types.specs.declared.entry.Entry.{Entry}
 use Rattle.mw_types.specs.declared.entry.Entry.TheVariants as entries
+use Rattle.topology.specs.Shapes.{parts_of}
+use Rattle.run_history.specs.Cases.{CaseShape}
 use Rattle.run_history.specs.Fences.{CarryNot, sequencer_of}
 use Rattle.run_history.proofs.Beginnings.{slice_get-more}
 use Rattle.list_lemmas.proofs.Lists.{none_some, some_same}
@@ -24,7 +26,7 @@ use Rattle.outbox.specs.declared.outgoing.Outgoing.{Outgoing}
 use Rattle.node.proofs.FitLaws.{Fits-beside, HasMore, outgoing-more}
 use Rattle.world.specs.scripts.Keeping.{AreClaimed}
 use Rattle.world.proofs.scripts.Places.{at-set}
-use Rattle.world.specs.scripts.Standing.{FitsOwn, IsFlying, IsWorld}
+use Rattle.world.specs.scripts.Standing.{AreOnWay, FitsOwn, IsFlying, IsWorld}
 use Rattle.world.specs.drains.Turns.{HasStepped, with_own}
 use Rattle.world.specs.scripts.WorkerCalls.{HasCalled}
 use Rattle.world.specs.scripts.WorldStates.{WorldState, flight_of, world_of}
@@ -167,7 +169,7 @@ all-numbered state book number was node is at called n x found =
 -- each lease is of a claim of its worker
 all-claimed : (state : WorldState) (book : BookView) (number : ℕ) (was node : NodeView) (flight : List (Option (Message NoNote)))
     → IsWorld state → slice_get state.nodes number ≡ Some was → HasCalled state.book book was node
-    → AreClaimed (world_of (record { book = book; nodes = slice_set state.nodes number node; flight = flight }))
+    → AreClaimed (world_of (record state { book = book; nodes = slice_set state.nodes number node; flight = flight }))
 all-claimed state book number was node flight is at called n interval seq lease =
     elim (at-set idle (map worker_at state.nodes) number n (worker_at node)) [
       | inl here ↦
@@ -206,14 +208,17 @@ flying-more old new flight more each = All-weaker (IsFlying old) (IsFlying new) 
 
 -- a world is one once a worker has acted
 pub world-after : (state : WorldState) (book : BookView) (number : ℕ) (was node : NodeView) (flight : List (Option (Message NoNote)))
-    → IsWorld state → slice_get state.nodes number ≡ Some was → HasCalled state.book book was node
-    → All (IsFlying book) (flight_of flight) → length flight ≤ 2 ^ 32
-    → IsWorld (record { book = book; nodes = slice_set state.nodes number node; flight = flight })
-world-after state book number was node flight is at called flying few = record {
+    (left : List ℕ) → IsWorld state → slice_get state.nodes number ≡ Some was → HasCalled state.book book was node
+    → All (IsFlying book) (flight_of flight) → length flight ≤ 2 ^ 32 → AreOnWay state.routes (flight_of flight) left
+    → IsWorld (record state { book = book; nodes = slice_set state.nodes number node; flight = flight; left = left })
+world-after state book number was node flight left is at called flying few on_way = record {
   sixteen = length-set state.nodes number node ∙ is.sixteen;
   numbered = all-numbered state book number was node is at called;
   fit = all-fit state book number was node is at called;
   claimed = all-claimed state book number was node flight is at called;
   flying = flying;
   few = few;
+  on_way = on_way;
+  relays = is.relays;
+  routed = is.routed ∙ ap (λ (c : CaseShape). parts_of c.topology) (sym called.grown.moved.case);
 }

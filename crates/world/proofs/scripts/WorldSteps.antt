@@ -27,7 +27,7 @@ use Rattle.world.proofs.scripts.WorldStands.{flying-more, more-grown, node-at, s
 
 -- a world in which the book, one worker and what is in flight are these
 abbrev pub changed : WorldState → BookView → ℕ → NodeView → List (Option (Message NoNote)) → WorldState
-changed state book number node flight = record {
+changed state book number node flight = record state {
   book = book;
   nodes = slice_set state.nodes number node;
   flight = flight;
@@ -63,7 +63,7 @@ at-world state number was is at = record {
 pub world-changed : (state : WorldState) (book : BookView) (number : ℕ) (node : NodeView) (flight : List (Option (Message NoNote)))
     → world_of (changed state book number node flight)
     ≡ record (world_with book number node (world_of state)) { flight = flight_of flight }
-world-changed state book number node flight = ap (λ (ws : List Worker). record {
+world-changed state book number node flight = ap (λ (ws : List Worker). record (world_of state) {
   history = book.history;
   marks = book.marks;
   workers = ws;
@@ -89,19 +89,19 @@ pub rested-at : (state : WorldState) (book : BookView) (number : ℕ) (was node 
     → slice_get state.nodes number ≡ Some was → HasRested state.book book was node
     → world_of (changed state book number node flight) ≡ record (world_of state) { flight = flight_of flight }
 rested-at state book number was node flight at rested =
-    ap (λ (h : List Entry). record {
+    ap (λ (h : List Entry). record (world_of state) {
       history = h;
       marks = book.marks;
       workers = map worker_at (slice_set state.nodes number node);
       flight = flight_of flight;
     }) rested.history
-    ∙ ap (λ (m : List ℕ). record {
+    ∙ ap (λ (m : List ℕ). record (world_of state) {
       history = state.book.history;
       marks = m;
       workers = map worker_at (slice_set state.nodes number node);
       flight = flight_of flight;
     }) rested.marks
-    ∙ ap (λ (ws : List Worker). record {
+    ∙ ap (λ (ws : List Worker). record (world_of state) {
       history = state.book.history;
       marks = state.book.marks;
       workers = ws;
@@ -117,6 +117,7 @@ pub gone-at : (state : WorldState) (book : BookView) (number : ℕ) (was node : 
 gone-at state book number was node flight called = record {
   own = called.grown.own;
   stepped = stepped-grown was.held state.book book called.grown;
+  routes = refl;
 }
 
 -- and stands, where what is in flight stayed
@@ -124,8 +125,8 @@ pub stands-at : (state : WorldState) (book : BookView) (number : ℕ) (was node 
     → slice_get state.nodes number ≡ Some was → HasCalled state.book book was node
     → IsWorld (changed state book number node state.flight)
 stands-at state book number was node is at called =
-    world-after state book number was node state.flight is at called
-    (flying-more state.book book (flight_of state.flight) (more-grown was.held state.book book called.grown) is.flying) is.few
+    world-after state book number was node state.flight state.left is at called
+    (flying-more state.book book (flight_of state.flight) (more-grown was.held state.book book called.grown) is.flying) is.few is.on_way
 
 -- the computations are still those of the case
 pub work-moved : {has : ℕ → State → Type 0} {record_by : ℕ → List ℕ → State → Record → EffectsView}

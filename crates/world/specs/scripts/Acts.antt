@@ -1,7 +1,7 @@
 -- What each step of a script does in the scripted world, and what it answers.
 -- Akidau et al., VLDB 2013, section 6.1 for what a worker does on receipt of a record, section 4.6 for
 -- timers, section 6.2 for a write under an older sequencer. Own: the steps, and their answers.
-use Rattle.std.specs.Prelude.{ℕ, ◌+◌, ◌==◌, ◌^◌, ◌&&◌, ◌++◌, ◌∷◌, [], nat_le, nat_lt, if◌then◌else◌, Bool, false, List, filter, find, fold, length, map, slice_get, slice_set, Option, None, Some}
+use Rattle.std.specs.Prelude.{ℕ, ◌+◌, ◌-◌, ◌==◌, ◌^◌, ◌&&◌, ◌||◌, ◌++◌, ◌∷◌, [], nat_le, nat_lt, if◌then◌else◌, Bool, false, List, filter, find, fold, length, map, slice_get, slice_set, Option, None, Some}
 use Rattle.std.specs.List.{filter_map, flat_map, reduce}
 use Rattle.std.specs.Option.{is_some, option_and_then, option_map, option_map_or, option_to_list}
 use Rattle.std.specs.Ordering.{min_by_ordering}
@@ -15,6 +15,7 @@ use Rattle.mw_types.specs.declared.timer.Timer.{Timer}
 use Rattle.key_intervals.specs.declared.bounds.Bounds.{Bounds}
 use Rattle.injector.specs.Sources.{item_at}
 use Rattle.injector.specs.declared.item.Item.{Item}
+use Rattle.topology.specs.Folding.{RoutesView}
 use Rattle.topology.specs.Shapes.{Shape}
 use Rattle.row_parts.specs.Contents.{Contents, is_finished, cursor_in, found_delivery}
 use Rattle.run_history.specs.Cases.{CaseShape, intervals_of, record_of, source_of}
@@ -32,13 +33,14 @@ use Rattle.node.specs.declared.outcome.Outcome.{Outcome}
 use Rattle.node.specs.declared.outcome.Outcome.TheVariants as outcomes
 use Rattle.outbox.specs.declared.outgoing.Outgoing.{Outgoing}
 use Rattle.outbox.specs.declared.outgoing.Outgoing.TheVariants as outgoing
-use Rattle.world.specs.scripts.Worlds.{World, empty_world, in_flight, lease_of, lease_on, overtaken_by, row_known, row_of_message, rows_known, rows_of_worker, run_known, worker_of}
+use Rattle.world.specs.scripts.Worlds.{World, empty_world, held_by, in_flight, is_next, lease_of, lease_on, overtaken_by, relays_on, row_known, row_of_message, rows_known, rows_of_worker, run_known, to_pass, worker_of}
+use Rattle.weak_relay.specs.Relays.{holds, with_id, without_id}
 use Rattle.plans.specs.declared.step.Step.{Step}
 use Rattle.plans.specs.declared.step.Step.TheVariants as steps
 
 -- what a step comes to: its answer; the lease under which it is done, if it is done under one; the worker
 -- that does it, and what that worker is then, if it changes; the entry that it writes, if it writes one; and
--- the messages and the marks that it leaves
+-- the messages that it leaves, with what they have to pass, what relays hold then, and the marks
 pub record Deed : Type 0 where
   pub answer : Outcome
   pub under : Option LeaseView
@@ -46,6 +48,8 @@ pub record Deed : Type 0 where
   pub after : Option Worker
   pub entry : Option Entry
   pub flight : List (Option Outgoing)
+  pub left : List ℕ
+  pub relays : List (List RecordId)
   pub marks : List ℕ
 
 -- what a step answers, and the world that it leaves
@@ -77,6 +81,9 @@ changed_by shape world deed = record {
   workers = workers_with deed.number (option_map (with_sends shape world.history deed.entry) deed.after)
       world.workers;
   flight = deed.flight;
+  left = deed.left;
+  relays = deed.relays;
+  routes = world.routes;
 }
 
 -- the world once a deed's lease is found to be overtaken: the worker has lost the lease, with what it had
@@ -113,6 +120,8 @@ stays world number answer = record {
   after = None;
   entry = None;
   flight = world.flight;
+  left = world.left;
+  relays = world.relays;
   marks = world.marks;
 }
 
@@ -180,6 +189,7 @@ abbrev pub send_all : ℕ → World → Deed
 send_all number world = let worker = worker_of world number in
     record (becomes world number (outcomes.Sent (length worker.outbox)) (record worker { outbox = [] })) {
       flight = sent_after world.flight worker.outbox;
+      left = world.left ++ map (λ (m : Outgoing). length (relays_on world.routes m)) worker.outbox;
     }
 
 -- the whole outbox goes to flight, if there are numbers for it
@@ -220,10 +230,10 @@ abbrev pub must_wait : Worker → Outgoing → Bool
 must_wait worker (outgoing.Deliver delivery sender) = is_some worker.prepared
 must_wait worker (outgoing.Ack to id) = false
 
--- a worker takes a message, unless it has to wait or another has its row
+-- a worker takes a message, unless relays come first, or it has to wait, or another has its row
 abbrev pub take_message : Shape → ℕ → ℕ → World → Outgoing → Deed
 take_message shape number message world taken = let worker = worker_of world number in
-    if must_wait worker taken
+    if nat_lt 0 (to_pass world message) || must_wait worker taken
     then nothing world number
     else option_map_or (take_out shape number message world taken)
     (lease_on shape worker (row_of_message taken)) (stays world number outcomes.NotMine)
@@ -233,18 +243,19 @@ abbrev pub take : Shape → ℕ → ℕ → World → Deed
 take shape number message world = option_map_or (take_message shape number message world)
     (in_flight world.flight message) (nothing world number)
 
--- a message that is in flight is there once more, under the next number
-abbrev pub copy_message : World → Outgoing → Deed
-copy_message world copied = if has_numbers world.flight 1
+-- a message that is in flight is there once more, under the next number, with as many relays to pass
+abbrev pub copy_message : ℕ → World → Outgoing → Deed
+copy_message message world copied = if has_numbers world.flight 1
     then record (stays world 0 (outcomes.Copied (length world.flight))) {
       flight = sent_after world.flight (copied ∷ []);
+      left = world.left ++ to_pass world message ∷ [];
     }
     else nothing world 0
 
 -- a message is copied, if it is in flight
 abbrev pub copy : ℕ → World → Deed
 copy message world =
-    option_map_or (copy_message world) (in_flight world.flight message) (nothing world 0)
+    option_map_or (copy_message message world) (in_flight world.flight message) (nothing world 0)
 
 -- a message that is in flight is lost
 abbrev pub lose_message : ℕ → World → Outgoing → Deed
@@ -255,6 +266,49 @@ lose_message message world lost_one =
 abbrev pub lose : ℕ → World → Deed
 lose message world =
     option_map_or (lose_message message world) (in_flight world.flight message) (nothing world 0)
+
+-- ---- relays
+
+-- a message leaves flight, an equal one gets the next number, with one relay less to pass, and the relay holds
+-- these ids
+abbrev pub passed_on : ℕ → ℕ → World → Outgoing → List RecordId → Deed
+passed_on relay message world passed held = record (stays world 0 (outcomes.Sent 1)) {
+  flight = sent_after (without_message message world.flight) (passed ∷ []);
+  left = world.left ++ (to_pass world message - 1) ∷ [];
+  relays = slice_set world.relays relay held;
+}
+
+-- a message passes a relay, if there is a number for it
+abbrev pub pass_on : ℕ → ℕ → World → Outgoing → List RecordId → Deed
+pass_on relay message world passed held = if has_numbers world.flight 1
+    then passed_on relay message world passed held
+    else nothing world 0
+
+-- a record passes, and its id is held; word of it passes where its id is held, which then it is no more, and
+-- else is lost
+abbrev pub relay_message : ℕ → ℕ → World → Outgoing → Deed
+relay_message relay message world (outgoing.Deliver delivery sender) = pass_on relay message world
+    (outgoing.Deliver delivery sender) (with_id delivery.id (held_by world relay))
+relay_message relay message world (outgoing.Ack to id) = if holds (held_by world relay) id
+    then pass_on relay message world (outgoing.Ack to id) (without_id id (held_by world relay))
+    else lose_message message world (outgoing.Ack to id)
+
+-- a message comes to a relay, if that is the next on its way
+abbrev pub relay_next : ℕ → ℕ → World → Outgoing → Deed
+relay_next relay message world next =
+    if is_next relay (relays_on world.routes next) next (to_pass world message)
+    then relay_message relay message world next
+    else nothing world 0
+
+-- a message that is in flight comes to a relay
+abbrev pub relay : ℕ → ℕ → World → Deed
+relay number message world =
+    option_map_or (relay_next number message world) (in_flight world.flight message) (nothing world 0)
+
+-- a relay forgets the ids that it holds
+abbrev pub forget : ℕ → World → Deed
+forget number world =
+    record (stays world 0 outcomes.Crashed) { relays = slice_set world.relays number [] }
 
 -- ---- what is prepared
 
@@ -419,6 +473,8 @@ deed_of case world (steps.Resend worker) = resend case.topology worker world
 deed_of case world (steps.Purge worker interval) = purge case.topology worker interval world
 deed_of case world (steps.Repeat message) = copy message world
 deed_of case world (steps.Lose message) = lose message world
+deed_of case world (steps.Relay number message) = relay number message world
+deed_of case world (steps.Forget number) = forget number world
 deed_of case world (steps.Crash worker) = crash worker world
 
 -- what a step answers, and the world that it leaves
@@ -440,5 +496,5 @@ answers case world (step ∷ script) =
     (act case world step).0 ∷ answers case (world_then case world step) script
 
 -- the history that a script writes
-abbrev pub scripted_history : CaseShape → List Step → List Entry
-scripted_history case script = (world_after case (empty_world case.topology) script).history
+abbrev pub scripted_history : RoutesView → CaseShape → List Step → List Entry
+scripted_history routes case script = (world_after case (empty_world routes case.topology) script).history

@@ -40,6 +40,12 @@ AreApart world = (number interval other another seq : ℕ) →
     (worker_of world number).leases interval ≡ Some seq →
     (worker_of world other).leases another ≡ Some seq → IsOneLease number interval other another
 
+-- nothing was written: the history, the marks and the workers are as they were
+pub record WritesNothing (old new : World) : Type 0 where
+  pub history : new.history ≡ old.history
+  pub marks : new.marks ≡ old.marks
+  pub workers : new.workers ≡ old.workers
+
 -- what a script keeps of the world in which it begins
 pub record KeepsWorld (old new : World) : Type 0 where
   pub grown : Begins old.history new.history

@@ -10,6 +10,7 @@ use Rattle.world.specs.scripts.WorldStates.{WorldState, world_of}
 -- whole does
 pub record IsRunning (start world : WorldState) (left all : List Step) : Type 0 where
   pub case : world.book.case ≡ start.book.case
+  pub routes : world.routes ≡ start.routes
   pub limit : world.book.limit ≡ start.book.limit
   pub tells : is_some world.book.rows ≡ is_some start.book.rows
   pub faults : start.book.faults ≤ world.book.faults

@@ -8,12 +8,17 @@ use Rattle.worked_examples.specs.Drained.{id_of, injector_row}
 use Rattle.worked_examples.specs.First.{counts, first_case, record_at, row_a, window}
 use Rattle.node.specs.declared.outcome.Outcome.{Outcome}
 use Rattle.node.specs.declared.outcome.Outcome.TheVariants.{Claimed, Committed, Copied, Crashed, Duplicate, Lost, Marked, NotMine, Nothing, Prepared, Queued, Sent, Stale}
+use Rattle.topology.specs.Folding.{RoutesView, routes_in}
 use Rattle.outbox.specs.declared.outgoing.Outgoing.{Outgoing}
 use Rattle.outbox.specs.declared.outgoing.Outgoing.TheVariants as outgoing
 use Rattle.world.specs.scripts.Acts.{answers, scripted_history, world_after}
 use Rattle.world.specs.scripts.Worlds.{empty_world}
 use Rattle.plans.specs.declared.step.Step.{Step}
 use Rattle.plans.specs.declared.step.Step.TheVariants.{Claim, Crash, Fire, Inject, Lose, Purge, Repeat, Report, Resend, Send, Take, Write}
+
+-- the first example has no weak computation
+abbrev pub no_routes : RoutesView
+no_routes = routes_in first_case.topology
 
 -- a script, each step with the answer that was worked out for it
 abbrev pub Worked : Type 0
@@ -26,16 +31,17 @@ steps_of worked = map (λ (w : Step × Outcome). w.0) worked
 -- each step answers what was worked out for it
 abbrev pub IsAnswered : Worked → Type 0
 IsAnswered worked =
-    answers first_case (empty_world first_case.topology) (steps_of worked)
+    answers first_case (empty_world no_routes first_case.topology) (steps_of worked)
     ≡ map (λ (w : Step × Outcome). w.1) worked
 
 -- the messages in flight after a worked script
 abbrev pub flight_of : Worked → List (Option Outgoing)
-flight_of worked = (world_after first_case (empty_world first_case.topology) (steps_of worked)).flight
+flight_of worked =
+    (world_after first_case (empty_world no_routes first_case.topology) (steps_of worked)).flight
 
 -- the history that a worked script writes
 abbrev pub history_of : Worked → List Entry
-history_of worked = scripted_history first_case (steps_of worked)
+history_of worked = scripted_history no_routes first_case (steps_of worked)
 
 -- the first line, injected by the first worker, which has claimed both intervals
 abbrev pub first_line : List Entry

@@ -66,6 +66,8 @@ worker_of_step world (steps.Resend worker) = worker_of world worker
 worker_of_step world (steps.Purge worker interval) = worker_of world worker
 worker_of_step world (steps.Repeat message) = idle
 worker_of_step world (steps.Lose message) = idle
+worker_of_step world (steps.Relay relay message) = idle
+worker_of_step world (steps.Forget relay) = idle
 worker_of_step world (steps.Crash worker) = worker_of world worker
 
 -- a step's answer has its cause

@@ -1,5 +1,5 @@
 //! Scripts that were worked by hand.
-ghost use Rattle.std.specs.Prelude.{None, Some, [], length, take, ◌∷◌, ◌≡◌};
+ghost use Rattle.std.specs.Prelude.{None, Some, [], length, take, true, ◌∷◌, ◌≡◌};
 ghost use Rattle.world.specs.scripts.Scripts.{
   IsAnswered,
   after_crash,
@@ -21,7 +21,17 @@ ghost use Rattle.world.specs.scripts.Scripts.{
   while_prepared,
   without_work,
 };
+ghost use Rattle.topology.specs.Folding.{folded, is_foldable};
+ghost use Rattle.world.specs.scripts.RelayScripts.{
+  IsRelayed,
+  forgotten,
+  relayed_entries,
+  relayed_history,
+  relayed_shape,
+  there_and_back,
+};
 ghost use Rattle.worked_examples.specs.Drained.{drained_history};
+ghost use Rattle.worked_examples.specs.First.{first_case};
 
 /// An owner that is overtaken between its preparation and its write is refused.
 ///
@@ -82,4 +92,21 @@ pub fn overtaken_leases_are_lost()
 pub fn one_worker_writes_the_drained_example()
     ensures answers { IsAnswered by_one_worker }
     ensures history { history_of by_one_worker ≡ drained_history }
+{}
+
+/// A record passes a relay on its way, and word of it passes the relay on its way back.
+pub fn word_passes_back_over_a_relay()
+    // The topology may be folded, and what that leaves is the first example's.
+    ensures foldable { is_foldable relayed_shape ≡ true }
+    ensures folded { folded relayed_shape ≡ first_case.topology }
+
+    ensures answers { IsRelayed there_and_back }
+    ensures history { relayed_history there_and_back ≡ relayed_entries }
+{}
+
+/// Word of a record is lost where the relay has forgotten the record. It is sent again then, and handled once
+/// all the same.
+pub fn word_is_lost_where_a_relay_forgot()
+    ensures answers { IsRelayed forgotten }
+    ensures history { relayed_history forgotten ≡ relayed_entries }
 {}

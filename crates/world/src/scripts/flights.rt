@@ -1,15 +1,16 @@
 //! Messages in flight, each found by its number.
-ghost use Rattle.std.specs.Prelude.{◌≡◌, ◌≤◌, ◌+◌, ◌++◌, ◌∷◌, ◌^◌, [], nat_le, length, map, All, IfErr, IfOk, IsFalse, IsSome, IsTrue, None, OnErr, OnOk, Some, option_copied, slice_get, slice_set, unwrap_or};
+ghost use Rattle.std.specs.Prelude.{List, ℕ, ◌≡◌, ◌≤◌, ◌+◌, ◌++◌, ◌∷◌, ◌^◌, [], nat_le, length, map, All, IfErr, IfOk, IsFalse, IsSome, IsTrue, None, OnErr, OnOk, Some, option_copied, slice_get, slice_set, unwrap_or};
 ghost use Rattle.std.specs.Option.{option_map};
 ghost use Rattle.std.specs.Vec.{vec_capacity};
+ghost use Rattle.topology.specs.Folding.{RoutesView};
 ghost use Rattle.book.specs.Books.{BookView};
 ghost use Rattle.node.specs.Received.{outgoing_of};
 ghost use Rattle.node.specs.Workers.{worker_at};
 ghost use Rattle.world.specs.scripts.Acts.{without_message};
 ghost use Rattle.world.specs.scripts.Worlds.{in_flight};
-ghost use Rattle.world.specs.scripts.Standing.{FitsOwn, IsFlying};
+ghost use Rattle.world.specs.scripts.Standing.{AreOnWay, FitsOwn, IsFlying};
 ghost use Rattle.world.specs.scripts.Stepping.{NamesNone};
-ghost use Rattle.world.specs.scripts.WorkerCalls.{FliesOn, HasCalled, IsSending, SendsOn};
+ghost use Rattle.world.specs.scripts.WorkerCalls.{CopiesOn, FliesOn, HasCalled, HasCopied, HasSent, IsSending, SendsOn};
 ghost use Rattle.world.specs.scripts.WorldStates.{flight_of};
 
 use book::{Book, NoNote, OwnDesk};
@@ -37,12 +38,13 @@ pub(crate) fn take_out(flight: &mut Flight, message: u32) -> Message<NoNote>
     requires there { IsSome (unwrap_or (slice_get flight.old.items message) None) }
     ensures taken { unwrap_or (slice_get flight.old.items message) None ≡ Some result }
     ensures gone { flight.new.items ≡ slice_set flight.old.items message None }
+    ensures room { vec_capacity flight.new ≡ vec_capacity flight.old }
 {
     flight[message as usize].take().unwrap()
 }
 
 // Whether there are numbers for so many messages more.
-fn has_numbers(flight: &Flight, count: usize) -> bool
+pub(crate) fn has_numbers(flight: &Flight, count: usize) -> bool
     requires few { length flight.now.items ≤ 2 ^ 32 }
     ensures { result ≡ nat_le (length flight.now.items + count) (2 ^ 32) }
 {
@@ -50,7 +52,7 @@ fn has_numbers(flight: &Flight, count: usize) -> bool
 }
 
 // Makes room for so many messages more.
-fn make_room(flight: &mut Flight, count: usize) -> Result<(), NoMemory>
+pub(crate) fn make_room(flight: &mut Flight, count: usize) -> Result<(), NoMemory>
     ensures same { flight.new.items ≡ flight.old.items }
     ensures room { OnOk result
         (length flight.new.items + count ≤ vec_capacity flight.new) }
@@ -72,6 +74,8 @@ pub(crate) fn send<'a, K: Keeper>(
     ensures acted { IfOk result (SendsOn book.old node.old (flight_of flight.old.items)
         book.new node.new (flight_of flight.new.items)) }
     ensures cause { IfOk result NamesNone }
+    ensures sent { HasSent (length node.old.outbox)
+        (flight_of flight.old.items) (flight_of flight.new.items) }
     ensures few { length flight.new.items ≤ 2 ^ 32 }
     ensures flying { All (IsFlying book.new) (flight_of flight.new.items) }
     ensures unsent { OnErr result (book.new ≡ book.old) }
@@ -131,9 +135,11 @@ fn send_first<'a, K: Keeper>(
 // A message comes once more, if it is in flight and there is a number for it.
 pub(crate) fn repeat(alloc: Global, flight: &mut Flight, message: u32) -> Result<Outcome, NodeFault>
     requires few { length flight.old.items ≤ 2 ^ 32 }
-    ensures acted { IfOk result (FliesOn (Step.Repeat message)
+    ensures acted { IfOk result (CopiesOn message
         (flight_of flight.old.items) (flight_of flight.new.items)) }
     ensures cause { IfOk result NamesNone }
+    ensures copied { HasCopied message
+        (flight_of flight.old.items) (flight_of flight.new.items) }
     ensures few { length flight.new.items ≤ 2 ^ 32 }
     ensures flying { (book : BookView) → All (IsFlying book) (flight_of flight.old.items) →
         All (IsFlying book) (flight_of flight.new.items) }
@@ -211,6 +217,9 @@ pub(crate) fn lose(flight: &mut Flight, message: u32) -> Outcome
         (flight_of flight.old.items) (flight_of flight.new.items) result }
     ensures cause { NamesNone result }
     ensures same { length flight.new.items ≡ length flight.old.items }
+    ensures on_way { (routes : RoutesView) (left : List ℕ) →
+        AreOnWay routes (flight_of flight.old.items) left →
+        AreOnWay routes (flight_of flight.new.items) left }
     ensures flying { (book : BookView) → All (IsFlying book) (flight_of flight.old.items) →
         All (IsFlying book) (flight_of flight.new.items) }
 {

@@ -3,6 +3,7 @@ ghost use Rattle.std.specs.Prelude.{List, Some, ℕ, ◌≡◌};
 ghost use Rattle.mw_types.specs.declared.entry.Entry.{Entry};
 ghost use Rattle.topology.specs.Rules.{IsTopology};
 ghost use Rattle.topology.specs.Shapes.{Shape};
+ghost use Rattle.topology.specs.Folding.{RoutesView};
 ghost use Rattle.run_history.specs.Cases.{CaseShape};
 ghost use Rattle.run_history.specs.Fences.{IsCurrent, IsFenced, IsOvertakenBy};
 ghost use Rattle.book.specs.Books.{LeaseView};
@@ -26,7 +27,8 @@ pub fn overtaken_owners_are_refused()
 
 /// Each entry that a script writes carries the last claim of its row's interval.
 pub fn scripted_histories_are_fenced()
-    ensures fenced { (case : CaseShape) (history : List Entry) (marks : List ℕ)
-        (script : List Step) → IsTopology case.topology → IsFenced case.topology history →
-        IsFenced case.topology (world_after case (world_on history marks) script).history }
+    ensures fenced { (case : CaseShape) (routes : RoutesView) (history : List Entry)
+        (marks : List ℕ) (script : List Step) → IsTopology case.topology →
+        IsFenced case.topology history →
+        IsFenced case.topology (world_after case (world_on routes history marks) script).history }
 {}

@@ -24,9 +24,10 @@ pub fn run_script<'a, K: Keeper, C: Computation + Drop>(
     world: &mut World<'a, K, C>,
     steps: &[Step],
 ) -> Result<(), NodeFault>
-    requires steps { All (IsStep world.old.book.case.topology) steps.now }
+    requires steps { All (IsStep world.old.book.case.topology world.old.routes.weaks) steps.now }
 
     ensures case { world.new.book.case ≡ world.old.book.case }
+    ensures routes { world.new.routes ≡ world.old.routes }
     ensures limit { world.new.book.limit ≡ world.old.book.limit }
     ensures tells { is_some world.new.book.rows ≡ is_some world.old.book.rows }
     ensures grown { Begins world.old.book.history world.new.book.history }

@@ -1,5 +1,5 @@
 //! The steps of a script, done for real.
-ghost use Rattle.std.specs.Prelude.{◌≡◌, ◌<◌, ◌≤◌, ◌^◌, Err, IfErr, IfOk, IfSome, None, OnErr, length};
+ghost use Rattle.std.specs.Prelude.{ℕ, ◌≡◌, ◌<◌, ◌≤◌, ◌^◌, Err, IfErr, IfOk, IfSome, None, OnErr, length};
 ghost use Rattle.std.specs.Option.{is_some};
 ghost use Rattle.mw_types.specs.Causes.{Rose};
 ghost use Rattle.book.specs.DeskReasons.{IsDamageOf};
@@ -17,6 +17,7 @@ ghost use Rattle.world.specs.scripts.WorldStates.{world_of};
 
 use crate::scripts::deliveries::{answered_in_place, receive};
 use crate::scripts::flights::{find, lose, repeat, send, take_out};
+use crate::scripts::relays::{make_places, note_copied, note_sent, relay, to_pass};
 use crate::scripts::worker_calls::{claim, fire, inject, purge, report, resend, write};
 use crate::scripts::world::World;
 use book::{Book, NoNote};
@@ -30,12 +31,13 @@ impl<'a, K: Keeper, C: Computation + Drop> World<'a, K, C> {
     /// Does one step of a script. Where a contract can see the keeper's rows it answers what the
     /// scripted world does, and leaves that world.
     pub fn step(&mut self, alloc: Global, step: &Step) -> Result<Outcome, NodeFault>
-        requires step { IsStep self.old.book.case.topology step.now }
+        requires step { IsStep self.old.book.case.topology self.old.routes.weaks step.now }
 
         ensures acted { IfOk result (HasActed step.now self.old self.new) }
 
         // Over every keeper at most one entry is appended.
         ensures case { self.new.book.case ≡ self.old.book.case }
+        ensures routes { self.new.routes ≡ self.old.routes }
         ensures limit { self.new.book.limit ≡ self.old.book.limit }
         ensures tells { is_some self.new.book.rows ≡ is_some self.old.book.rows }
         ensures faults { self.old.book.faults ≤ self.new.book.faults }
@@ -70,7 +72,7 @@ impl<'a, K: Keeper, C: Computation + Drop> World<'a, K, C> {
 
     // Does a step, which is one of a worker without a message, or one of messages.
     fn step_once(&mut self, alloc: Global, step: &Step) -> Result<Outcome, NodeFault>
-        requires step { IsStep self.old.book.case.topology step.now }
+        requires step { IsStep self.old.book.case.topology self.old.routes.weaks step.now }
         ensures acted { IfOk result (HasActed step.now self.old self.new) }
         ensures cause { IfOk result (HasCauseOf step.now self.old self.new) }
         ensures gone { HasGoneOn self.old self.new }
@@ -86,7 +88,7 @@ impl<'a, K: Keeper, C: Computation + Drop> World<'a, K, C> {
 
     // Does a step of messages.
     fn step_messages(&mut self, alloc: Global, step: &Step) -> Result<Outcome, NodeFault>
-        requires step { IsStep self.old.book.case.topology step.now }
+        requires step { IsStep self.old.book.case.topology self.old.routes.weaks step.now }
         requires messages { IsOfMessages step.now }
         ensures acted { IfOk result (HasActed step.now self.old self.new) }
         ensures cause { IfOk result (HasCauseOf step.now self.old self.new) }
@@ -100,6 +102,8 @@ impl<'a, K: Keeper, C: Computation + Drop> World<'a, K, C> {
             Step::Take { worker, message } => self.take(alloc, *worker, *message),
             Step::Repeat { message } => self.repeat(alloc, *message),
             Step::Lose { message } => Ok(self.lose(*message)),
+            Step::Relay { relay, message } => self.relay(*relay, *message),
+            Step::Forget { relay } => Ok(self.forget(*relay)),
             _ => unreachable!(),
         }
     }
@@ -107,7 +111,7 @@ impl<'a, K: Keeper, C: Computation + Drop> World<'a, K, C> {
     // Does a step that a worker does without a message.
     fn step_alone(&mut self, alloc: Global, worker: u32, step: &Step) -> Result<Outcome, NodeFault>
         requires worker { worker < 16 }
-        requires step { IsStep self.old.book.case.topology step.now }
+        requires step { IsStep self.old.book.case.topology self.old.routes.weaks step.now }
         requires alone { IsAlone worker step.now }
         ensures acted { IfOk result (HasActed step.now self.old self.new) }
         ensures cause { IfOk result (HasCauseOf step.now self.old self.new) }
@@ -130,8 +134,12 @@ impl<'a, K: Keeper, C: Computation + Drop> World<'a, K, C> {
         ensures failed { IfErr result (HasFailed self.old.book self.new.book) }
         ensures full { IfErr result (IsFullStep (Step.Send worker) self.old) }
     {
+        let count = self.nodes[worker as usize].unsent();
+        make_places(&mut self.left, count)?;
         let node = &mut self.nodes[worker as usize];
-        send(&mut self.book, node, &mut self.flight)
+        let answer = send(&mut self.book, node, &mut self.flight);
+        note_sent(&mut self.left, &self.flight, &self.routes);
+        answer
     }
 
     // A worker takes a message, unless that stays in flight.
@@ -149,6 +157,10 @@ impl<'a, K: Keeper, C: Computation + Drop> World<'a, K, C> {
         let Some(found) = find(&self.flight, message) else {
             return Ok(Outcome::Nothing);
         };
+        // It has relays to pass first.
+        if to_pass(&self.left, message) > 0 {
+            return Ok(Outcome::Nothing);
+        }
         let here = &self.nodes[worker as usize];
         if let Some(outcome) = answered_in_place(case, here, found) {
             return Ok(outcome);
@@ -167,7 +179,41 @@ impl<'a, K: Keeper, C: Computation + Drop> World<'a, K, C> {
         ensures failed { IfErr result (HasFailed self.old.book self.new.book) }
         ensures full { IfErr result (IsFullStep (Step.Repeat message) self.old) }
     {
-        repeat(alloc, &mut self.flight, message)
+        make_places(&mut self.left, 1)?;
+        let answer = repeat(alloc, &mut self.flight, message);
+        note_copied(&mut self.left, &self.flight, message);
+        answer
+    }
+
+    // A message passes a relay.
+    fn relay(&mut self, number: u32, message: u32) -> Result<Outcome, NodeFault>
+        requires relay { number < self.old.routes.weaks }
+        ensures acted { IfOk result (HasActed (Step.Relay number message) self.old self.new) }
+        ensures cause { IfOk result (HasCauseOf (Step.Relay number message) self.old self.new) }
+        ensures gone { HasGoneOn self.old self.new }
+        ensures same { OnErr result (world_of self.new ≡ world_of self.old) }
+        ensures failed { IfErr result (HasFailed self.old.book self.new.book) }
+        ensures full { IfErr result (IsFullStep (Step.Relay number message) self.old) }
+    {
+        relay(
+            &mut self.flight,
+            &mut self.left,
+            &mut self.relays,
+            &self.routes,
+            number,
+            message,
+        )
+    }
+
+    // A relay forgets the ids that it holds.
+    fn forget(&mut self, number: u32) -> Outcome
+        requires relay { number < self.old.routes.weaks }
+        ensures acted { HasActed (Step.Forget number) self.old self.new result }
+        ensures cause { HasCauseOf (Step.Forget number) self.old self.new result }
+        ensures gone { HasGoneOn self.old self.new }
+    {
+        self.relays[number as usize].forget();
+        Outcome::Crashed
     }
 
     // A message is lost.
@@ -210,6 +256,11 @@ fn worker_alone(step: &Step) -> Option<u32>
         } => None,
         Step::Repeat { message: _ } => None,
         Step::Lose { message: _ } => None,
+        Step::Relay {
+            relay: _,
+            message: _,
+        } => None,
+        Step::Forget { relay: _ } => None,
     }
 }
 
@@ -224,7 +275,7 @@ fn call_alone<'a, K: Keeper, C: Computation>(
     requires fits { FitsOwn book.old node.old }
     requires work { IsWorkOf book.old.case.topology (C.has work.now)
         (C.gives_record work.now) (C.gives_timer work.now) }
-    requires step { IsStep book.old.case.topology step.now }
+    requires step { (weaks : ℕ) × IsStep book.old.case.topology weaks step.now }
     requires alone { IsAlone node.old.number step.now }
     ensures called { HasCalled book.old book.new node.old node.new }
     ensures acted { IfOk result (ActsOn step.now book.old node.old book.new node.new) }

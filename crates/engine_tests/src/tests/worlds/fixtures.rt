@@ -11,11 +11,22 @@ use row_keeper::Keeper;
 use run_history::Case;
 use std::alloc::Global;
 use std::process::Abort;
+use topology::{Folded, Routes};
 use world::World;
 
 /// A count over windows of 3600, of what a count over windows of 60 makes.
 pub const CHAIN: &str =
     r#"{"injectors":[{"name":"clicks","stream":"raw"}],"computations":[{"name":"per_minute","kind":"count","size":60,"reads":[{"stream":"raw","by":"key"}],"stream":"windows"},{"name":"per_hour","kind":"count","size":3600,"reads":[{"stream":"windows","by":"key"}],"stream":"hours"}]}
+"#;
+
+/// A count over windows of 60, of what is sent on by a weak pass.
+pub const RELAYED: &str =
+    r#"{"injectors":[{"name":"clicks","stream":"raw"}],"computations":[{"name":"near","kind":"pass","weak":true,"reads":[{"stream":"raw","by":"key"}],"stream":"mid"},{"name":"per_minute","kind":"count","size":60,"reads":[{"stream":"mid","by":"key"}],"stream":"windows"}]}
+"#;
+
+/// The same behind two weak passes, one behind the other.
+pub const RELAYED_TWICE: &str =
+    r#"{"injectors":[{"name":"clicks","stream":"raw"}],"computations":[{"name":"near","kind":"pass","weak":true,"reads":[{"stream":"raw","by":"key"}],"stream":"mid"},{"name":"far","kind":"pass","weak":true,"reads":[{"stream":"mid","by":"key"}],"stream":"end"},{"name":"per_minute","kind":"count","size":60,"reads":[{"stream":"end","by":"key"}],"stream":"windows"}]}
 "#;
 
 /// A count over windows of 60, of what is passed on.
@@ -49,5 +60,23 @@ pub(crate) fn world<'a, K: Keeper>(
 {
     let work = work(rt, alloc, case);
     let book = made(rt, Book::start(alloc, case, keeper, limit));
-    made(rt, World::start(alloc, book, work))
+    let Folded { topology, routes } = made(rt, case.topology.fold(alloc));
+    drop(topology);
+    made(rt, World::start(alloc, book, work, routes))
+}
+
+// The same, with the routes of the topology whose weak computations were left out.
+pub(crate) fn relaying_world<'a, K: Keeper>(
+    rt: &impl Abort,
+    alloc: Global,
+    case: &'a Case,
+    routes: Routes,
+    keeper: K,
+    limit: u64,
+) -> World<'a, K, Kinds>
+    requires { limit ≤ 2 ^ 32 }
+{
+    let work = work(rt, alloc, case);
+    let book = made(rt, Book::start(alloc, case, keeper, limit));
+    made(rt, World::start(alloc, book, work, routes))
 }

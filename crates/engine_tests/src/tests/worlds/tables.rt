@@ -6,34 +6,41 @@
 ghost use Rattle.std.specs.Prelude.{◌≤◌, ◌^◌, All};
 ghost use Rattle.plans.specs.Steps.{IsStep};
 
-use super::fixtures::{MOST, world};
+use super::fixtures::{MOST, relaying_world};
 use crate::tests::keepers::{blind, in_memory};
 use crate::tests::made;
-use crate::tests::text_cases::{COUNT, RECORDS, case};
+use crate::tests::text_cases::{COUNT, RECORDS, folded_case};
 use computations::Kinds;
 use node::{NodeFault, Outcome};
 use row_keeper::Keeper;
 use run_history::{Case, EntryRef};
 use std::alloc::Global;
 use std::process::Abort;
+use topology::Routes;
 use world::{Schedule, Step, World, read_schedule};
 
 // The schedule of a text.
-pub(crate) fn schedule(rt: &impl Abort, alloc: Global, case: &Case, text: &str) -> Schedule
+pub(crate) fn schedule(
+    rt: &impl Abort,
+    alloc: Global,
+    case: &Case,
+    weaks: u32,
+    text: &str,
+) -> Schedule
     ensures { All (IsStep case.now.topology) result }
 {
     let bytes = text.as_bytes();
     if bytes.len() > 1 << 20 {
         rt.panic("the schedule is too long");
     }
-    made(rt, read_schedule(alloc, bytes, case))
+    made(rt, read_schedule(alloc, bytes, case, weaks))
 }
 
 // The one step of a line.
-fn step(rt: &impl Abort, alloc: Global, case: &Case, line: &str) -> Step
+fn step(rt: &impl Abort, alloc: Global, case: &Case, weaks: u32, line: &str) -> Step
     ensures { IsStep case.now.topology result }
 {
-    let schedule = schedule(rt, alloc, case, line);
+    let schedule = schedule(rt, alloc, case, weaks, line);
     match schedule.steps().first() {
         Some(step) => *step,
         None => rt.panic("the line has no step"),
@@ -49,7 +56,7 @@ fn answer<K: Keeper>(
     line: &str,
 ) -> Result<Outcome, NodeFault> {
     let case = world.book().case();
-    let step = step(rt, alloc, case, line);
+    let step = step(rt, alloc, case, world.weaks(), line);
     world.step(alloc, &step)
 }
 
@@ -207,32 +214,33 @@ fn wrong_over<K: Keeper>(
     rt: &impl Abort,
     alloc: Global,
     case: &Case,
+    routes: Routes,
     keeper: K,
     limit: u64,
     table: &str,
 ) -> u64
     requires { limit ≤ 2 ^ 32 }
 {
-    let mut world = world(rt, alloc, case, keeper, limit);
+    let mut world = relaying_world(rt, alloc, case, routes, keeper, limit);
     let wrong = first_wrong(rt, alloc, &mut world, table);
     drop(world);
     wrong
 }
 
 // The same over the keeper and the book that the table tells.
-fn wrong_of(rt: &impl Abort, alloc: Global, case: &Case, table: &Table) -> u64 {
+fn wrong_of(rt: &impl Abort, alloc: Global, case: &Case, routes: Routes, table: &Table) -> u64 {
     let (_, _, over, lines) = *table;
     match over {
         Over::Failing(calls) => {
-            wrong_over(rt, alloc, case, in_memory(rt, alloc, calls), MOST, lines)
+            wrong_over(rt, alloc, case, routes, in_memory(rt, alloc, calls), MOST, lines)
         }
         Over::Full(limit) => {
             let limit = u64::from(limit);
             assert!(rt; limit <= MOST, "a book takes fewer entries");
-            wrong_over(rt, alloc, case, in_memory(rt, alloc, &[]), limit, lines)
+            wrong_over(rt, alloc, case, routes, in_memory(rt, alloc, &[]), limit, lines)
         }
         Over::Blind(shown) => {
-            wrong_over(rt, alloc, case, blind(rt, alloc, 1, shown), MOST, lines)
+            wrong_over(rt, alloc, case, routes, blind(rt, alloc, 1, shown), MOST, lines)
         }
     }
 }
@@ -240,8 +248,8 @@ fn wrong_of(rt: &impl Abort, alloc: Global, case: &Case, table: &Table) -> u64 {
 // The same over the case that the table tells.
 fn wrong_in(rt: &impl Abort, alloc: Global, table: &Table) -> u64 {
     let (topology, events) = table.1;
-    let case = case(rt, alloc, topology, events);
-    let wrong = wrong_of(rt, alloc, &case, table);
+    let (case, routes) = folded_case(rt, alloc, topology, events);
+    let wrong = wrong_of(rt, alloc, &case, routes, table);
     drop(case);
     wrong
 }

@@ -31,7 +31,7 @@ pub(crate) fn runs<K: Keeper>(
     text: &str,
 ) -> Result<(), NodeFault> {
     let case = world.book().case();
-    let schedule = schedule(rt, alloc, case, text);
+    let schedule = schedule(rt, alloc, case, world.weaks(), text);
     let ran = run_script(alloc, world, schedule.steps());
     drop(schedule);
     ran

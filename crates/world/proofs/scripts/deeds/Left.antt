@@ -54,7 +54,7 @@ acting-of case old world number was acting = record {
 
 -- the world once a worker is this node, and its desk knows this; with these messages in flight
 abbrev pub left_world : DeskView → ℕ → NodeView → List (Option Outgoing) → World → World
-left_world desk number node flight world = record {
+left_world desk number node flight world = record world {
   history = desk.seen;
   marks = desk.marks;
   workers = slice_set world.workers number (worker_at node);
@@ -81,11 +81,22 @@ pub workers-same : (world : World) (number : ℕ) → slice_set world.workers nu
 workers-same world number = ap (slice_set world.workers number) (unwrap_or-slice_get world.workers number idle)
     ∙ set-get_or world.workers number idle
 
--- an answer with a world, by the answer and the world's fields
+-- an answer with a world, by the answer and the world's fields; relays, and what they know, are the same
 pub acted-same : (one other : Outcome) (this that : World) → one ≡ other → this.history ≡ that.history → this.marks ≡ that.marks
-    → this.workers ≡ that.workers → this.flight ≡ that.flight → ◌≡◌ {A = Acted} (one, this) (other, that)
-acted-same one other this that answer history marks workers flight =
-    λ i. (answer i, record { history = history i; marks = marks i; workers = workers i; flight = flight i })
+    → this.workers ≡ that.workers → this.flight ≡ that.flight → this.left ≡ that.left → this.relays ≡ that.relays
+    → this.routes ≡ that.routes → ◌≡◌ {A = Acted} (one, this) (other, that)
+acted-same one other this that answer history marks workers flight left relays routes = λ i. (
+  answer i,
+  record {
+    history = history i;
+    marks = marks i;
+    workers = workers i;
+    flight = flight i;
+    left = left i;
+    relays = relays i;
+    routes = routes i;
+  },
+)
 
 -- a desk that is alone had seen all that stands before its own entry
 pub moved-alone : (old new : DeskView) (before : List Entry) → HasMoved old new before → old.alone ≡ true → before ≡ old.seen
@@ -108,7 +119,7 @@ idle-acts shape number old new was node answer flight world alone marks of idle 
     (left_world new number node flight world) refl
     (append-nil world.history ∙ of.history ∙ sym (moved-alone old new new.seen idle.looked alone.alone))
     (of.marks ∙ sym marks)
-    (sym (ap (slice_set world.workers number) (idle.kept ∙ sym of.worker) ∙ workers-same world number)) refl
+    (sym (ap (slice_set world.workers number) (idle.kept ∙ sym of.worker) ∙ workers-same world number)) refl refl refl refl
 
 -- a worker that answers and is another then
 pub becomes-acts : (shape : Shape) (number : ℕ) (old new : DeskView) (was node : NodeView) (answer : Outcome) (after : Worker)
@@ -118,7 +129,7 @@ pub becomes-acts : (shape : Shape) (number : ℕ) (old new : DeskView) (was node
 becomes-acts shape number old new was node answer after flight world seen marks of is =
     acted-same answer answer (changed_by shape world (with_flight flight (becomes world number answer after)))
     (left_world new number node flight world) refl (append-nil world.history ∙ of.history ∙ sym seen) (of.marks ∙ sym marks)
-    (ap (slice_set world.workers number) (sym is)) refl
+    (ap (slice_set world.workers number) (sym is)) refl refl refl refl
 
 -- what an entry makes after the history is put behind what its worker is then
 made-left : (shape : Shape) (old new : DeskView) (asked : Request) (after : Worker) (node : NodeView) (commit : ℕ) (history : List Entry)
@@ -145,7 +156,7 @@ committed-acts shape number old new asked after was node commit flight world alo
     (left_world new number node flight world) (ap outcomes.Committed (ap length (sym before) ∙ sym c.number))
     (ap (λ h. h ++ asked.entry ∷ []) (sym before) ∙ sym c.appended) (of.marks ∙ sym marks)
     (ap (slice_set world.workers number)
-    (made-left shape old new asked after node commit world.history alone written c before)) refl
+    (made-left shape old new asked after node commit world.history alone written c before)) refl refl refl refl
 
 -- a worker whose lease was overtaken did nothing, and has lost the lease
 pub stale-acts : (shape : Shape) (number : ℕ) (old new : DeskView) (lease : LeaseView) (was node : NodeView) (newer : ℕ)
@@ -159,7 +170,7 @@ stale-acts shape number old new lease was node newer world deed alone marks of u
     (left_world new number node deed.flight world) refl (sym seen) (of.marks ∙ sym marks)
     (ap (λ n. slice_set world.workers n (with_lease shape lease.interval None (worker_of world n))) same
     ∙ ap (λ w. slice_set world.workers number (with_lease shape lease.interval None w)) of.worker
-    ∙ ap (slice_set world.workers number) (sym gone.left)) refl
+    ∙ ap (slice_set world.workers number) (sym gone.left)) refl refl refl refl
 
 -- no other has the turn of a desk that is alone
 pub not-turned : (old new : DeskView) (lease : LeaseView) (was node : NodeView) (found : ℕ) → IsAlone old new

@@ -83,7 +83,7 @@ marked-acts case old new world number was node interval mark held bounds acting 
     (ap (λ k. with_mark lease.interval k world.marks) mark_is ∙ ap (with_mark lease.interval mark) acting.marks
     ∙ sym reported_is.raised)
     (sym (ap (slice_set world.workers number) (m.idle.kept ∙ sym (acting-worker case old world number was acting))
-    ∙ workers-same world number)) refl
+    ∙ workers-same world number)) refl refl refl refl
 
 -- what is answered under a lease
 answer-acts : (case : CaseShape) (old new : BookView) (world : World) (number : ℕ) (was node : NodeView) (interval : ℕ)

@@ -4,7 +4,7 @@ use crate::tests::foundations::all_hold;
 use topology::TopologyRefusal;
 
 // What is read, and the first rule that it breaks, if it breaks one.
-static READ: [(Source, Option<TopologyRefusal>); 55] = [
+static READ: [(Source, Option<TopologyRefusal>); 58] = [
     // Bytes that are no JSON text.
     (Source::Bytes(b""), Some(TopologyRefusal::NotJson)),
     (
@@ -63,8 +63,16 @@ static READ: [(Source, Option<TopologyRefusal>); 55] = [
         Some(TopologyRefusal::BadShape),
     ),
     (
-        Source::Changed(r#""pass""#, r#""pass","weak":true"#),
+        Source::Changed(r#""pass""#, r#""pass","weak":1"#),
         Some(TopologyRefusal::BadShape),
+    ),
+    (
+        Source::Changed("60", r#"60,"weak":true"#),
+        Some(TopologyRefusal::BadShape),
+    ),
+    (
+        Source::Changed(r#""pass""#, r#""pass","weak":false"#),
+        None,
     ),
     (
         Source::Changed(r#"[{"stream":"raw","by":"tail"}]"#, "[]"),
@@ -184,6 +192,11 @@ static READ: [(Source, Option<TopologyRefusal>); 55] = [
     (
         Source::Changed(r#"["h","q"]"#, r#"["","h"]"#),
         Some(TopologyRefusal::BadCuts),
+    ),
+    // A weak pass that nothing reads.
+    (
+        Source::Changed(r#""pass""#, r#""pass","weak":true"#),
+        Some(TopologyRefusal::BadWeak),
     ),
     // No JSON text, and a stream that is no text.
     (

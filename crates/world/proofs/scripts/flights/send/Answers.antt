@@ -2,9 +2,9 @@ use Rattle.std.proofs.Common.{◌≡◌, ◌+◌, ◌^◌, true, false, length, 
 use Rattle.std.specs.Prelude.{All, nat_le}
 use Rattle.node.specs.declared.outcome.Outcome.TheVariants as outcomes
 use Rattle.world.specs.scripts.Standing.{IsFlying}
-use Rattle.world.specs.scripts.WorkerCalls.{SendsOn}
+use Rattle.world.specs.scripts.WorkerCalls.{HasSent, SendsOn}
 use Rattle.world.specs.scripts.WorldStates.{flight_of}
-use Rattle.world.proofs.scripts.SendSteps.{send-full, send-more, sent-called, sent-flying, unsent-called}
+use Rattle.world.proofs.scripts.SendSteps.{send-full, send-more, sent-behind, sent-called, sent-flying, sent-none, unsent-called}
 use Rattle.world.proofs.scripts.flights.send.Goals as goal
 
 -- there are no numbers: nothing was asked
@@ -18,7 +18,17 @@ returns-then-not-has_numbers-clause-acted g c =
     let full : nat_le (length c.args.flight.now.items + c.unsent-count.result) (2 ^ 32) ≡ false = search rules in
     send-full c.args.book.now c.args.node.now c.args.flight.now.items c.unsent-count.result c.unsent-count.ensures.unsent full
 
--- nor was it where memory ran out
+-- nothing came
+pub returns-then-not-has_numbers-clause-sent : goal.returns-then-not-has_numbers-clause-sent
+returns-then-not-has_numbers-clause-sent g c = sent-none (length c.args.node.now.outbox) (flight_of c.args.flight.now.items)
+
+-- nor did it where memory ran out
+pub returns-in_err-make_room-clause-sent : goal.returns-in_err-make_room-clause-sent
+returns-in_err-make_room-clause-sent g c =
+    subst (λ f. HasSent (length c.args.node.now.outbox) (flight_of c.args.flight.now.items) (flight_of f)) (sym c.make_room.ensures.same)
+    (sent-none (length c.args.node.now.outbox) (flight_of c.args.flight.now.items))
+
+-- and nothing was asked
 pub returns-in_err-make_room-clause-called : goal.returns-in_err-make_room-clause-called
 returns-in_err-make_room-clause-called g c =
     unsent-called c.args.book.now c.args.node.now c.history.ensures.lawful c.requires.fits
@@ -39,6 +49,13 @@ returns-clause-acted g c =
     (send-more c.args.book.now c.send_all.new.book c.args.node.now c.send_all.new.node c.make_room.new.flight.items
     c.send_all.new.flight.items count c.send_all.ensures.sending c.send_all.ensures.all c.unsent-count.ensures.unsent
     (subst (λ f. nat_le (length f + count) (2 ^ 32) ≡ true) (sym c.make_room.ensures.same) room))
+
+-- it came behind what was in flight
+pub returns-clause-sent : goal.returns-clause-sent
+returns-clause-sent g c =
+    subst (λ f. HasSent (length c.args.node.now.outbox) (flight_of f) (flight_of c.send_all.new.flight.items)) c.make_room.ensures.same
+    (sent-behind c.args.book.now c.send_all.new.book c.args.node.now c.send_all.new.node (flight_of c.make_room.new.flight.items)
+    (flight_of c.send_all.new.flight.items) c.send_all.ensures.sending c.send_all.ensures.all)
 
 -- and may have been sent
 pub returns-clause-flying : goal.returns-clause-flying

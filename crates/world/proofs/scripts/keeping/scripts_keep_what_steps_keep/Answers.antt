@@ -6,5 +6,5 @@ pub returns : goal.returns
 returns c = record {
   kept = script-keeps;
   claimed = script-claimed;
-  sixteen = λ case history marks script. (script-keeps case (world_on history marks) script).form.workers;
+  sixteen = λ case routes history marks script. (script-keeps case (world_on routes history marks) script).form.workers;
 }

@@ -14,7 +14,14 @@ drain_turn-requires-clause-under_way g c =
 -- its workers stand in a world over the book that is left
 pub invariant_of-self : goal.invariant_of-self
 invariant_of-self g c =
-    let state : WorldState = record { book = c.self.inside.book; nodes = c.self.inside.nodes.items; flight = c.self.inside.flight.items } in
+    let state : WorldState = record {
+      book = c.self.inside.book;
+      nodes = c.self.inside.nodes.items;
+      flight = c.self.inside.flight.items;
+      left = c.self.inside.left.items;
+      relays = c.self.inside.relays.items;
+      routes = c.self.inside.routes;
+    } in
     let has : HasDrain state c.args.drain.now = subst (λ (s : WorldState). HasDrain s c.args.drain.now) (sym c.self.view_is) c.requires.drain in (
       draining-world c.drain_turn.new.book state has.idle has.none,
       work-moved state.book.case c.drain_turn.new.book.case
@@ -25,7 +32,14 @@ invariant_of-self g c =
 -- the drain of the world is under way
 pub returns-clause-drain : goal.returns-clause-drain
 returns-clause-drain g c =
-    let state : WorldState = record { book = c.self.inside.book; nodes = c.self.inside.nodes.items; flight = c.self.inside.flight.items } in
+    let state : WorldState = record {
+      book = c.self.inside.book;
+      nodes = c.self.inside.nodes.items;
+      flight = c.self.inside.flight.items;
+      left = c.self.inside.left.items;
+      relays = c.self.inside.relays.items;
+      routes = c.self.inside.routes;
+    } in
     let has : HasDrain state c.args.drain.now = subst (λ (s : WorldState). HasDrain s c.args.drain.now) (sym c.self.view_is) c.requires.drain in
     ok-left c.drain_turn.result (λ under. drain-on state c.drain_turn.new.book c.args.drain.now c.drain_turn.new.drain has under)
     c.drain_turn.ensures.under_way
@@ -33,6 +47,13 @@ returns-clause-drain g c =
 -- its workers have nothing
 pub returns-clause-begun : goal.returns-clause-begun
 returns-clause-begun g c =
-    let state : WorldState = record { book = c.self.inside.book; nodes = c.self.inside.nodes.items; flight = c.self.inside.flight.items } in
+    let state : WorldState = record {
+      book = c.self.inside.book;
+      nodes = c.self.inside.nodes.items;
+      flight = c.self.inside.flight.items;
+      left = c.self.inside.left.items;
+      relays = c.self.inside.relays.items;
+      routes = c.self.inside.routes;
+    } in
     let has : HasDrain state c.args.drain.now = subst (λ (s : WorldState). HasDrain s c.args.drain.now) (sym c.self.view_is) c.requires.drain in
     drained-world c.drain_turn.new.book state has.idle has.none

@@ -12,7 +12,14 @@ use Rattle.world.proofs.scripts.world.World.repeat.Goals as goal
 -- a message is copied as in the script
 pub returns-clause-acted : goal.returns-clause-acted
 returns-clause-acted g c =
-    let state : WorldState = record { book = c.self.inside.book; nodes = c.self.inside.nodes.items; flight = c.self.inside.flight.items } in
+    let state : WorldState = record {
+      book = c.self.inside.book;
+      nodes = c.self.inside.nodes.items;
+      flight = c.self.inside.flight.items;
+      left = c.self.inside.left.items;
+      relays = c.self.inside.relays.items;
+      routes = c.self.inside.routes;
+    } in
     let new : WorldState = record state { flight = c.repeat.new.flight.items } in
     subst (λ (s : WorldState). IfOk c.repeat.result (HasActed (steps.Repeat c.args.message) s new)) c.self.view_is
     (ok-then c.repeat.result (λ outcome acts. if-there state.book.rows (λ told. acts state.book.case (world_of state) refl))

@@ -16,13 +16,27 @@ use Rattle.world.proofs.scripts.world.World.send.Goals as goal
 -- the worker fits its book
 pub send-requires-clause-fits : goal.send-requires-clause-fits
 send-requires-clause-fits g c =
-    let state : WorldState = record { book = c.self.inside.book; nodes = c.self.inside.nodes.items; flight = c.self.inside.flight.items } in
+    let state : WorldState = record {
+      book = c.self.inside.book;
+      nodes = c.self.inside.nodes.items;
+      flight = c.self.inside.flight.items;
+      left = c.self.inside.left.items;
+      relays = c.self.inside.relays.items;
+      routes = c.self.inside.routes;
+    } in
     fits-index state c.args.worker c.index_mut-node.result.now c.self.invariant.0 c.requires.worker c.index_mut-node.ensures.value
 
 -- the world stands
 pub invariant_of-self : goal.invariant_of-self
 invariant_of-self g c =
-    let state : WorldState = record { book = c.self.inside.book; nodes = c.self.inside.nodes.items; flight = c.self.inside.flight.items } in
+    let state : WorldState = record {
+      book = c.self.inside.book;
+      nodes = c.self.inside.nodes.items;
+      flight = c.self.inside.flight.items;
+      left = c.self.inside.left.items;
+      relays = c.self.inside.relays.items;
+      routes = c.self.inside.routes;
+    } in
     let was = c.index_mut-node.result.now in
     let at = at-index state c.args.worker was c.self.invariant.0 c.requires.worker c.index_mut-node.ensures.value in
     let called = c.send.ensures.called in (
@@ -34,7 +48,14 @@ invariant_of-self g c =
 -- all is sent as in the script
 pub returns-clause-acted : goal.returns-clause-acted
 returns-clause-acted g c =
-    let state : WorldState = record { book = c.self.inside.book; nodes = c.self.inside.nodes.items; flight = c.self.inside.flight.items } in
+    let state : WorldState = record {
+      book = c.self.inside.book;
+      nodes = c.self.inside.nodes.items;
+      flight = c.self.inside.flight.items;
+      left = c.self.inside.left.items;
+      relays = c.self.inside.relays.items;
+      routes = c.self.inside.routes;
+    } in
     let was = c.index_mut-node.result.now in
     let new = changed state c.send.new.book c.args.worker c.send.new.node c.send.new.flight.items in
     let at = at-index state c.args.worker was c.self.invariant.0 c.requires.worker c.index_mut-node.ensures.value in
@@ -46,7 +67,14 @@ returns-clause-acted g c =
 -- the world goes on
 pub returns-clause-gone : goal.returns-clause-gone
 returns-clause-gone g c =
-    let state : WorldState = record { book = c.self.inside.book; nodes = c.self.inside.nodes.items; flight = c.self.inside.flight.items } in
+    let state : WorldState = record {
+      book = c.self.inside.book;
+      nodes = c.self.inside.nodes.items;
+      flight = c.self.inside.flight.items;
+      left = c.self.inside.left.items;
+      relays = c.self.inside.relays.items;
+      routes = c.self.inside.routes;
+    } in
     let new = changed state c.send.new.book c.args.worker c.send.new.node c.send.new.flight.items in
     subst (λ (s : WorldState). HasGoneOn s new) c.self.view_is
     (gone-at state c.send.new.book c.args.worker c.index_mut-node.result.now c.send.new.node c.send.new.flight.items c.send.ensures.called)
@@ -54,7 +82,14 @@ returns-clause-gone g c =
 -- a lack of memory leaves all as it was
 pub returns-clause-same : goal.returns-clause-same
 returns-clause-same g c =
-    let state : WorldState = record { book = c.self.inside.book; nodes = c.self.inside.nodes.items; flight = c.self.inside.flight.items } in
+    let state : WorldState = record {
+      book = c.self.inside.book;
+      nodes = c.self.inside.nodes.items;
+      flight = c.self.inside.flight.items;
+      left = c.self.inside.left.items;
+      relays = c.self.inside.relays.items;
+      routes = c.self.inside.routes;
+    } in
     let was = c.index_mut-node.result.now in
     let new = changed state c.send.new.book c.args.worker c.send.new.node c.send.new.flight.items in
     let at = at-index state c.args.worker was c.self.invariant.0 c.requires.worker c.index_mut-node.ensures.value in
