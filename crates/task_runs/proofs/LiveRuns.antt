@@ -120,26 +120,26 @@ not-first n = ne_eqb (n + 1) 0 (λ e. omega (arith, e))
 -- one more step of a script was done
 pub step-more : (start old new : WorldState) (all : List Step) (at : ℕ) (d : Step) (outcome : Outcome)
     → IsRunning start old (drop at all) all → at < length all
-    → new.book.case ≡ old.book.case → new.book.limit ≡ old.book.limit
+    → new.book.case ≡ old.book.case → new.routes ≡ old.routes → new.book.limit ≡ old.book.limit
     → is_some new.book.rows ≡ is_some old.book.rows → old.book.faults ≤ new.book.faults
     → AppendsAtMostOne (world_of old) (world_of new) → HasActed (get_or all at d) old new outcome
     → IsRunning start new (drop (at + 1) all) all
-step-more start old new all at d outcome running below case limit tells faults one acted =
+step-more start old new all at d outcome running below case routes limit tells faults one acted =
     run-more start old new (get_or all at d) (drop (at + 1) all) all outcome
-    (subst (λ (left : List Step). IsRunning start old left all) (drop_more all at d below) running) case limit tells faults one acted
+    (subst (λ (left : List Step). IsRunning start old left all) (drop_more all at d below) running) case routes limit tells faults one acted
 
 -- so it was where its results could not be written, or it was not, and left the history
 pub step-begun : (start old new : WorldState) (all : List Step) (at : ℕ) (d : Step) (fault : LiveFault)
     → IsRunning start old (drop at all) all → at < length all
-    → new.book.case ≡ old.book.case → new.book.limit ≡ old.book.limit
+    → new.book.case ≡ old.book.case → new.routes ≡ old.routes → new.book.limit ≡ old.book.limit
     → is_some new.book.rows ≡ is_some old.book.rows → old.book.faults ≤ new.book.faults
     → AppendsAtMostOne (world_of old) (world_of new) → IsStepFault (get_or all at d) old new fault → IsSome start.book.rows
     → Begins new.book.history (world_after start.book.case (world_of start) all).history
-step-begun start old new all at d (lives.Run why) running below case limit tells faults one failed told =
+step-begun start old new all at d (lives.Run why) running below case routes limit tells faults one failed told =
     run-begun start old new (drop at all) all running (faulted-history (get_or all at d) old new failed) told
-step-begun start old new all at d (lives.Sink why) running below case limit tells faults one done told =
+step-begun start old new all at d (lives.Sink why) running below case routes limit tells faults one done told =
     run-begun start new new (drop (at + 1) all) all
-    (step-more start old new all at d done.0 running below case limit tells faults one done.1) refl told
+    (step-more start old new all at d done.0 running below case routes limit tells faults one done.1) refl told
 
 -- a step that was done, and its results
 pub pumped-step : (case other : CaseShape) (front history : List Entry) (n count : ℕ) (old new : OutletView)

@@ -53,8 +53,8 @@ same_where_empty one other before after (Some old) (Some new) tells begun ended 
     ap Some (none_stored other after new ended kept ∙ sym (none_stored one before old begun held))
 
 -- what is so over the routes and the case of a world is so over those of its task
-pub over_task : {r s : RoutesView} {k c : CaseShape} (P : RoutesView → CaseShape → Type 0) → r ≡ s → k ≡ c → P r k → P s c
-over_task P routes case is = subst (P _) case (subst (λ (w : RoutesView). P w _) routes is)
+pub over_task : (r s : RoutesView) (k c : CaseShape) (P : RoutesView → CaseShape → Type 0) → r ≡ s → k ≡ c → P r k → P s c
+over_task r s k c P routes case is = subst (P s) case (subst (λ (w : RoutesView). P w k) routes is)
 
 -- what is so where rows were seen is so where they are seen, as is what holds of them
 pub seen_again : {A : Type 0} {P Q : Rows → Type 0} (old new : Option Rows) → is_some new ≡ is_some old

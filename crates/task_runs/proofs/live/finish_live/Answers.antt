@@ -26,10 +26,10 @@ returns-in-Ok-clause-left g c =
     let some = g.O.Sink.text c.args.out.now in
     let mid = g.O.Sink.text c.run_live-ran.new.out in
     let goes = subst (λ (b : Before). IfSome old.rows (λ _. GoesAs task.routes task.case b new.history)) (sym c.requires.before)
-    (over_task (λ (r : RoutesView) (k : CaseShape). IfSome old.rows (λ _. IsReplayed r k steps new.history)) c.requires.routes
+    (over_task _ _ _ _ (λ (r : RoutesView) (k : CaseShape). IfSome old.rows (λ _. IsReplayed r k steps new.history)) c.requires.routes
     c.requires.case after.replayed) in
     let all = subst (λ (b : Before). IfSome old.rows (λ _. IsAllOf task.routes task.case b new.history)) (sym c.requires.before)
-    (over_task (λ (r : RoutesView) (k : CaseShape). IfSome old.rows (λ _. IsWholeReplay r k steps new.history)) c.requires.routes
+    (over_task _ _ _ _ (λ (r : RoutesView) (k : CaseShape). IfSome old.rows (λ _. IsWholeReplay r k steps new.history)) c.requires.routes
     c.requires.case c.in-Ok.ensures.whole) in
     let run = run_of_book task old new (some, g.O.Sink.text c.write_summary.new.out) c.requires.case after.case
     c.sound.ensures.lawful c.sound-2.ensures.lawful empty after.tells goes in
@@ -38,7 +38,7 @@ returns-in-Ok-clause-left g c =
     let has = subst (λ (k : CaseShape). HasResults k.topology new.history (length steps == 0) some mid) c.requires.case
     c.in-Ok.ensures.results in
     let lines = seen_on (WritesReplay task.routes task.case steps new.history some mid) old.rows new.rows after.tells
-    (over_task (λ (r : RoutesView) (k : CaseShape). IfSome old.rows (λ _. WritesReplay r k steps new.history some mid)) c.requires.routes
+    (over_task _ _ _ _ (λ (r : RoutesView) (k : CaseShape). IfSome old.rows (λ _. WritesReplay r k steps new.history some mid)) c.requires.routes
     c.requires.case c.in-Ok.ensures.lines) in
     wrote_live task _ steps mid (at_once task.wanted c.requires.live) c.requires.before whole has lines c.write_summary.result
     c.write_summary.ensures.written
@@ -55,7 +55,7 @@ returns-in-Err-clause-left g c =
     let mid = g.O.Sink.text c.run_live-ran.new.out in
     let fault = c.in-Err.fault in
     let goes = subst (λ (b : Before). IfSome old.rows (λ _. GoesAs task.routes task.case b new.history)) (sym c.requires.before)
-    (over_task (λ (r : RoutesView) (k : CaseShape). IfSome old.rows (λ _. IsReplayed r k steps new.history)) c.requires.routes
+    (over_task _ _ _ _ (λ (r : RoutesView) (k : CaseShape). IfSome old.rows (λ _. IsReplayed r k steps new.history)) c.requires.routes
     c.requires.case after.replayed) in
     let run = run_of_book task old new (some, mid) c.requires.case after.case
     c.sound.ensures.lawful c.sound-2.ensures.lawful empty after.tells goes in
@@ -66,7 +66,7 @@ returns-in-Err-clause-left g c =
     (λ why e f. (subst (HasLiveCause old new _ _) e cause).full f ∙ after.limit ∙ c.requires.limit)
     (λ e. run_short task _ steps c.requires.before run (subst IsRunnable c.requires.case c.sound.ensures.lawful.runnable).topology
     c.drains_begin_the_drained_history.ensures.begins (more_seen _ old.rows new.rows after.tells
-    (over_task (λ (r : RoutesView) (k : CaseShape). IfSome old.rows (λ _. IsWholeReplay r k steps new.history → ⊥)) c.requires.routes
+    (over_task _ _ _ _ (λ (r : RoutesView) (k : CaseShape). IfSome old.rows (λ _. IsWholeReplay r k steps new.history → ⊥)) c.requires.routes
     c.requires.case (c.in-Err.ensures.more (ap Err e)))))
     (λ why name bytes e f. damaged_at task new why name bytes (after.case ∙ c.requires.case)
     (subst (HasLiveCause old new _ _) e cause).damaged f))

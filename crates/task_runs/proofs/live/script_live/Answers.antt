@@ -38,7 +38,7 @@ loop-step-preserved g c =
     let new = c.step_live.new.world in
     let step = c.step_live.ensures in
     let running = step-more start old new c.args.steps.now l.step-index _ c.in_ok-step_live.ensures.done.0 l.invariant.0
-    c.loop-step-test.true step.case step.limit step.tells step.keeper_later step.grown c.in_ok-step_live.ensures.done.1 in
+    c.loop-step-test.true step.case step.routes step.limit step.tells step.keeper_later step.grown c.in_ok-step_live.ensures.done.1 in
     let begins = begins-one (world_of old) (world_of new) step.grown in
     let later = l.invariant.2 in
     let cause = step.out_later in (
@@ -69,7 +69,7 @@ returns-in_err-step_live-clause-begun g c =
     let l = c.loop-step in
     let step = c.step_live.ensures in
     if-there c.args.world.now.book.rows (λ told. step-begun c.args.world.now l.world c.step_live.new.world c.args.steps.now l.step-index _
-    c.in_err-step_live.field-0.0 l.invariant.0 c.loop-step-test.true step.case step.limit step.tells step.keeper_later step.grown
+    c.in_err-step_live.field-0.0 l.invariant.0 c.loop-step-test.true step.case step.routes step.limit step.tells step.keeper_later step.grown
     c.in_err-step_live.ensures.failed told)
 
 pub returns-in_err-step_live-clause-cause : goal.returns-in_err-step_live-clause-cause

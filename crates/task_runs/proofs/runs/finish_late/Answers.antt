@@ -26,10 +26,10 @@ returns-in-Ok-clause-left g c =
     let empty = ap (λ (w : World). w.history) c.requires.begun in
     let steps = c.args.steps.now in
     let goes = subst (λ (b : Before). IfSome old.rows (λ _. GoesAs task.routes task.case b new.history)) (sym c.requires.before)
-    (over_task (λ (r : RoutesView) (k : CaseShape). IfSome old.rows (λ _. IsReplayed r k steps new.history)) c.requires.routes
+    (over_task _ _ _ _ (λ (r : RoutesView) (k : CaseShape). IfSome old.rows (λ _. IsReplayed r k steps new.history)) c.requires.routes
     c.requires.case after.replayed) in
     let all = subst (λ (b : Before). IfSome old.rows (λ _. IsAllOf task.routes task.case b new.history)) (sym c.requires.before)
-    (over_task (λ (r : RoutesView) (k : CaseShape). IfSome old.rows (λ _. IsWholeReplay r k steps new.history)) c.requires.routes
+    (over_task _ _ _ _ (λ (r : RoutesView) (k : CaseShape). IfSome old.rows (λ _. IsWholeReplay r k steps new.history)) c.requires.routes
     c.requires.case c.in-Ok.ensures.whole) in
     let run = run_of_book task old new (g.O.Sink.text c.args.out.now, g.O.Sink.text c.write.new.out) c.requires.case after.case
     c.look.ensures.lawful c.look-2.ensures.lawful empty after.tells goes in
@@ -51,7 +51,7 @@ returns-in-Err-clause-left g c =
     let empty = ap (λ (w : World). w.history) c.requires.begun in
     let steps = c.args.steps.now in
     let goes = subst (λ (b : Before). IfSome old.rows (λ _. GoesAs task.routes task.case b new.history)) (sym c.requires.before)
-    (over_task (λ (r : RoutesView) (k : CaseShape). IfSome old.rows (λ _. IsReplayed r k steps new.history)) c.requires.routes
+    (over_task _ _ _ _ (λ (r : RoutesView) (k : CaseShape). IfSome old.rows (λ _. IsReplayed r k steps new.history)) c.requires.routes
     c.requires.case after.replayed) in
     let run = run_of_book task old new (text, text) c.requires.case after.case
     c.look.ensures.lawful c.look-2.ensures.lawful empty after.tells goes in
@@ -59,7 +59,7 @@ returns-in-Err-clause-left g c =
     (λ e. c.in-Err.ensures.full (ap Err e) ∙ after.limit ∙ c.requires.limit)
     (λ e. run_short task _ steps c.requires.before run (subst IsRunnable c.requires.case c.look.ensures.lawful.runnable).topology
     c.drains_begin_the_drained_history.ensures.begins (more_seen _ old.rows new.rows after.tells
-    (over_task (λ (r : RoutesView) (k : CaseShape). IfSome old.rows (λ _. IsWholeReplay r k steps new.history → ⊥)) c.requires.routes
+    (over_task _ _ _ _ (λ (r : RoutesView) (k : CaseShape). IfSome old.rows (λ _. IsWholeReplay r k steps new.history → ⊥)) c.requires.routes
     c.requires.case (c.in-Err.ensures.more (ap Err e)))))
     (λ name bytes e. damaged_at task new _ name bytes (after.case ∙ c.requires.case) c.in-Err.ensures.damaged e) in
     subst (RunLeaves task _) (sym c.status_of_drain.ensures) status
