@@ -15,4 +15,6 @@ pub fn schedule_examples()
     ensures fire_on_injector { said_by (codes "fire 0 0") ≡ refused_at 1 }
     ensures no_worker { said_by (codes "crash 15\n\ncrash 16") ≡ refused_at 3 }
     ensures no_message { said_by (codes "lose 4294967296\n") ≡ refused_at 1 }
+    ensures no_relay { said_by (codes "relay 0 0\nrelay 1 0\n") ≡ refused_at 2 }
+    ensures no_relay_forgets { said_by (codes "forget 1\n") ≡ refused_at 1 }
 {}

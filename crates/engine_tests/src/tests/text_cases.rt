@@ -1,6 +1,7 @@
 //! Cases that are read from texts: a topology of one injector, and its event file.
 ghost use Rattle.std.specs.Prelude.{◌≡◌, length};
 ghost use Rattle.topology.specs.Shapes.{injectors_of};
+ghost use Rattle.world.specs.scripts.WorldStates.{IsFolding};
 
 use crate::tests::made;
 use injector::{Items, ItemsList, read_lines};
@@ -46,25 +47,26 @@ pub(crate) fn lines(rt: &impl Abort, alloc: Global, events: &str) -> Items {
     made(rt, read_lines(alloc, bytes, 1 << 18))
 }
 
-/// The case of a topology of one injector over this event file.
+/// The case of a topology of one injector over this event file, without its weak computations.
 pub(crate) fn case(rt: &impl Abort, alloc: Global, topology: &str, events: &str) -> Case {
     let (case, routes) = folded_case(rt, alloc, topology, events);
     drop(routes);
     case
 }
 
-/// The case of what is left of a topology of one injector without its weak computations, and the ways
-/// through these.
+/// The same case, and the routes of its records over the weak computations that were left out.
 pub(crate) fn folded_case(
     rt: &impl Abort,
     alloc: Global,
     topology: &str,
     events: &str,
-) -> (Case, Routes) {
+) -> (Case, Routes)
+    ensures { IsFolding result.0.topology result.1 }
+{
     let items = items(rt, alloc, events);
-    let stated = topology_of(rt, alloc, topology);
-    let Folded { topology, routes } = made(rt, stated.fold(alloc));
-    drop(stated);
+    let file = topology_of(rt, alloc, topology);
+    let Folded { topology, routes } = made(rt, file.fold(alloc));
+    drop(file);
     (made(rt, Case::of(alloc, topology, items)), routes)
 }
 

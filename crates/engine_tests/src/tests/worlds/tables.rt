@@ -5,8 +5,9 @@
 //! entries there are, and `last`, beside which stands the last of them.
 ghost use Rattle.std.specs.Prelude.{◌≤◌, ◌^◌, All};
 ghost use Rattle.plans.specs.Steps.{IsStep};
+ghost use Rattle.world.specs.scripts.WorldStates.{IsFolding};
 
-use super::fixtures::{MOST, relaying_world};
+use super::fixtures::{MOST, world};
 use crate::tests::keepers::{blind, in_memory};
 use crate::tests::made;
 use crate::tests::text_cases::{COUNT, RECORDS, folded_case};
@@ -27,7 +28,7 @@ pub(crate) fn schedule(
     weaks: u32,
     text: &str,
 ) -> Schedule
-    ensures { All (IsStep case.now.topology) result }
+    ensures { All (IsStep case.now.topology weaks) result }
 {
     let bytes = text.as_bytes();
     if bytes.len() > 1 << 20 {
@@ -38,7 +39,7 @@ pub(crate) fn schedule(
 
 // The one step of a line.
 fn step(rt: &impl Abort, alloc: Global, case: &Case, weaks: u32, line: &str) -> Step
-    ensures { IsStep case.now.topology result }
+    ensures { IsStep case.now.topology weaks result }
 {
     let schedule = schedule(rt, alloc, case, weaks, line);
     match schedule.steps().first() {
@@ -214,33 +215,60 @@ fn wrong_over<K: Keeper>(
     rt: &impl Abort,
     alloc: Global,
     case: &Case,
-    routes: Routes,
+    routes: &Routes,
     keeper: K,
     limit: u64,
     table: &str,
 ) -> u64
-    requires { limit ≤ 2 ^ 32 }
+    requires limit { limit ≤ 2 ^ 32 }
+    requires folding { IsFolding case.now.topology routes.now }
 {
-    let mut world = relaying_world(rt, alloc, case, routes, keeper, limit);
+    let mut world = world(rt, alloc, case, routes, keeper, limit);
     let wrong = first_wrong(rt, alloc, &mut world, table);
     drop(world);
     wrong
 }
 
 // The same over the keeper and the book that the table tells.
-fn wrong_of(rt: &impl Abort, alloc: Global, case: &Case, routes: Routes, table: &Table) -> u64 {
+fn wrong_of(rt: &impl Abort, alloc: Global, case: &Case, routes: &Routes, table: &Table) -> u64
+    requires { IsFolding case.now.topology routes.now }
+{
     let (_, _, over, lines) = *table;
     match over {
         Over::Failing(calls) => {
-            wrong_over(rt, alloc, case, routes, in_memory(rt, alloc, calls), MOST, lines)
+            wrong_over(
+                rt,
+                alloc,
+                case,
+                routes,
+                in_memory(rt, alloc, calls),
+                MOST,
+                lines,
+            )
         }
         Over::Full(limit) => {
             let limit = u64::from(limit);
             assert!(rt; limit <= MOST, "a book takes fewer entries");
-            wrong_over(rt, alloc, case, routes, in_memory(rt, alloc, &[]), limit, lines)
+            wrong_over(
+                rt,
+                alloc,
+                case,
+                routes,
+                in_memory(rt, alloc, &[]),
+                limit,
+                lines,
+            )
         }
         Over::Blind(shown) => {
-            wrong_over(rt, alloc, case, routes, blind(rt, alloc, 1, shown), MOST, lines)
+            wrong_over(
+                rt,
+                alloc,
+                case,
+                routes,
+                blind(rt, alloc, 1, shown),
+                MOST,
+                lines,
+            )
         }
     }
 }
@@ -249,7 +277,8 @@ fn wrong_of(rt: &impl Abort, alloc: Global, case: &Case, routes: Routes, table: 
 fn wrong_in(rt: &impl Abort, alloc: Global, table: &Table) -> u64 {
     let (topology, events) = table.1;
     let (case, routes) = folded_case(rt, alloc, topology, events);
-    let wrong = wrong_of(rt, alloc, &case, routes, table);
+    let wrong = wrong_of(rt, alloc, &case, &routes, table);
+    drop(routes);
     drop(case);
     wrong
 }

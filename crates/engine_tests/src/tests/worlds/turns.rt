@@ -1,18 +1,20 @@
 //! Worlds that are drained turn by turn, as their twins are drained at once.
 ghost use Rattle.std.specs.Prelude.{◌≡◌, OnSome, true};
 ghost use Rattle.world.specs.WorldDrains.{HasDrain};
+ghost use Rattle.world.specs.scripts.WorldStates.{IsFolding};
 
 use super::fixtures::{CHAIN, MOST, world};
 use super::tables::entry_said;
 use super::whole_scripts::{is_drained, runs};
 use crate::tests::keepers::in_memory;
-use crate::tests::text_cases::{COUNT, RECORDS, TWO, case};
+use crate::tests::text_cases::{COUNT, RECORDS, TWO, folded_case};
 use crate::tests::{made, must};
 use computations::Kinds;
 use row_keeper::{Keeper, MemKeeper};
 use run_history::{Case, History};
 use std::alloc::Global;
 use std::process::Abort;
+use topology::Routes;
 use world::{Drain, World};
 
 // Whether the next turn writes one entry, which is the one that a whole history has at its place, or none
@@ -90,10 +92,14 @@ fn after<'a>(
     rt: &impl Abort,
     alloc: Global,
     case: &'a Case,
+    routes: &Routes,
     failing: &[u64],
     script: &str,
-) -> World<'a, MemKeeper, Kinds> {
-    let mut world = world(rt, alloc, case, in_memory(rt, alloc, failing), MOST);
+) -> World<'a, MemKeeper, Kinds>
+    requires { IsFolding case.now.topology routes.now }
+{
+    let keeper = in_memory(rt, alloc, failing);
+    let mut world = world(rt, alloc, case, routes, keeper, MOST);
     made(rt, runs(rt, alloc, &mut world, script));
     world
 }
@@ -107,19 +113,38 @@ fn is_one(
     script: &str,
 ) -> bool {
     let (topology, events) = files;
-    let case = case(rt, alloc, topology, events);
-    let holds = is_one_of(rt, alloc, &case, failing, script);
+    let (case, routes) = folded_case(rt, alloc, topology, events);
+    let holds = is_one_of(rt, alloc, &case, &routes, failing, script);
+    drop(routes);
     drop(case);
     holds
 }
 
 // The same of a case: a world is drained at once, and once more after a fault, and each ends as is wanted.
-fn is_one_of(rt: &impl Abort, alloc: Global, case: &Case, failing: &[u64], script: &str) -> bool {
+fn is_one_of(
+    rt: &impl Abort,
+    alloc: Global,
+    case: &Case,
+    routes: &Routes,
+    failing: &[u64],
+    script: &str,
+) -> bool
+    requires { IsFolding case.now.topology routes.now }
+{
     let is_faulty = !failing.is_empty();
-    let mut twin = after(rt, alloc, case, failing, script);
+    let mut twin = after(rt, alloc, case, routes, failing, script);
     let ends = is_drained(alloc, &mut twin) != is_faulty
         && (!is_faulty || is_drained(alloc, &mut twin));
-    let holds = ends && turns_as(rt, alloc, case, failing, script, twin.book().history());
+    let holds = ends
+        && turns_as(
+            rt,
+            alloc,
+            case,
+            routes,
+            failing,
+            script,
+            twin.book().history(),
+        );
     drop(twin);
     holds
 }
@@ -130,11 +155,14 @@ fn turns_as(
     rt: &impl Abort,
     alloc: Global,
     case: &Case,
+    routes: &Routes,
     failing: &[u64],
     script: &str,
     whole: &History,
-) -> bool {
-    let mut world = after(rt, alloc, case, failing, script);
+) -> bool
+    requires { IsFolding case.now.topology routes.now }
+{
+    let mut world = after(rt, alloc, case, routes, failing, script);
     let first = is_drained_as(alloc, &mut world, whole);
     let holds = if failing.is_empty() {
         first

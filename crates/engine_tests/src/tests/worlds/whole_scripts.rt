@@ -1,15 +1,18 @@
 //! Whole scripts, whose answers are dropped.
+ghost use Rattle.world.specs.scripts.WorldStates.{IsFolding};
+
 use super::fixtures::{MOST, world};
 use super::tables::{entry_said, schedule};
 use crate::tests::keepers::in_memory;
 use crate::tests::must;
-use crate::tests::text_cases::{COUNT, RECORDS, case};
+use crate::tests::text_cases::{COUNT, RECORDS, folded_case};
 use computations::Kinds;
 use node::NodeFault;
 use row_keeper::Keeper;
 use run_history::Case;
 use std::alloc::Global;
 use std::process::Abort;
+use topology::Routes;
 use world::{World, run_script};
 
 // A worker has prepared a record and crashes before it writes.
@@ -69,9 +72,11 @@ enum Whole {
 }
 
 // The drain claims as entries 3 and 4, and handles the record as entry 5.
-fn is_handled(rt: &impl Abort, alloc: Global, case: &Case) -> bool {
+fn is_handled(rt: &impl Abort, alloc: Global, case: &Case, routes: &Routes) -> bool
+    requires { IsFolding case.now.topology routes.now }
+{
     let keeper = in_memory(rt, alloc, &[]);
-    let mut world = world(rt, alloc, case, keeper, MOST);
+    let mut world = world(rt, alloc, case, routes, keeper, MOST);
     let is_left = leaves(rt, alloc, &mut world, UNWRITTEN, true, 3);
     let is_drained = is_drained(alloc, &mut world);
     let book = world.into_book();
@@ -82,9 +87,11 @@ fn is_handled(rt: &impl Abort, alloc: Global, case: &Case) -> bool {
 }
 
 // The fourth call of the keeper fails, which the script's third step makes.
-fn ends(rt: &impl Abort, alloc: Global, case: &Case) -> bool {
+fn ends(rt: &impl Abort, alloc: Global, case: &Case, routes: &Routes) -> bool
+    requires { IsFolding case.now.topology routes.now }
+{
     let keeper = in_memory(rt, alloc, &[3]);
-    let mut world = world(rt, alloc, case, keeper, MOST);
+    let mut world = world(rt, alloc, case, routes, keeper, MOST);
     let ends = leaves(rt, alloc, &mut world, UNWRITTEN, false, 2);
     let goes_on = leaves(rt, alloc, &mut world, "inject 0 0\nclaim 1 1", true, 4);
     drop(world);
@@ -93,11 +100,12 @@ fn ends(rt: &impl Abort, alloc: Global, case: &Case) -> bool {
 
 // Whether it is so, over the count and its three records.
 fn holds(rt: &impl Abort, alloc: Global, whole: &Whole) -> bool {
-    let case = case(rt, alloc, COUNT, RECORDS);
+    let (case, routes) = folded_case(rt, alloc, COUNT, RECORDS);
     let holds = match whole {
-        Whole::Handled => is_handled(rt, alloc, &case),
-        Whole::Ended => ends(rt, alloc, &case),
+        Whole::Handled => is_handled(rt, alloc, &case, &routes),
+        Whole::Ended => ends(rt, alloc, &case, &routes),
     };
+    drop(routes);
     drop(case);
     holds
 }

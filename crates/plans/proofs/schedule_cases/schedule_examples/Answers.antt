@@ -27,3 +27,9 @@ returns-clause-no_worker c = refl
 
 pub returns-clause-no_message : goal.returns-clause-no_message
 returns-clause-no_message c = refl
+
+pub returns-clause-no_relay : goal.returns-clause-no_relay
+returns-clause-no_relay c = refl
+
+pub returns-clause-no_relay_forgets : goal.returns-clause-no_relay_forgets
+returns-clause-no_relay_forgets c = refl

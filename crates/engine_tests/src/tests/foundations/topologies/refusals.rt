@@ -70,10 +70,7 @@ static READ: [(Source, Option<TopologyRefusal>); 58] = [
         Source::Changed("60", r#"60,"weak":true"#),
         Some(TopologyRefusal::BadShape),
     ),
-    (
-        Source::Changed(r#""pass""#, r#""pass","weak":false"#),
-        None,
-    ),
+    (Source::Changed(r#""pass""#, r#""pass","weak":false"#), None),
     (
         Source::Changed(r#"[{"stream":"raw","by":"tail"}]"#, "[]"),
         Some(TopologyRefusal::BadShape),
