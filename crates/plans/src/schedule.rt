@@ -46,7 +46,8 @@ pub fn read_schedule(
 ) -> Result<Schedule, PlanRefusal>
     requires few { length bytes.now < 2 ^ 32 }
 
-    ensures steps { IfOk result (λ steps. schedule_of case.now.topology weaks bytes.now ≡ Ok steps) }
+    ensures steps { IfOk result
+        (λ steps. schedule_of case.now.topology weaks bytes.now ≡ Ok steps) }
     ensures there { IfOk result (All (IsStep case.now.topology weaks)) }
     ensures refused { IfErr result
         (IsRefusalOf PlanRefusal.NoMemory (schedule_of case.now.topology weaks bytes.now)) }

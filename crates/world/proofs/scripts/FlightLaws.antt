@@ -1,6 +1,6 @@
 -- Messages that come into flight, and that leave it.
 use Rattle.std.proofs.Common.{◌≡◌, ◌∙◌, ◌+◌, ◌^◌, ◌++◌, ◌∷◌, ℕ, Bool, true, false, List, [], length, length-append, inr, refl, sym, ap, subst}
-use Rattle.std.specs.Prelude.{Option, None, Some, All, if◌then◌else◌, nat_le, slice_get, slice_set, unwrap_or}
+use Rattle.std.specs.Prelude.{Option, None, Some, All, IfSome, if◌then◌else◌, nat_le, slice_get, slice_set, unwrap_or}
 use Rattle.std.specs.Option.{option_map, option_map_or}
 use Rattle.std.proofs.lemmas.List.{append-nil, length-map, map-append, map-set}
 use Rattle.std.proofs.lemmas.List.Elements.{All-get_or, All-push, All-set}
@@ -48,18 +48,23 @@ pub flight-put : (flight : List (Option (Message NoNote))) (message : Message No
     → flight_of (flight ++ Some message ∷ []) ≡ sent_after (flight_of flight) (outgoing_of message ∷ [])
 flight-put flight message = map-append noteless flight (Some message ∷ [])
 
--- what is in flight may have been sent
-pub flying-at : (book : BookView) (flight : List (Option Outgoing)) (number : ℕ) (message : Outgoing)
-    → All (IsFlying book) flight → in_flight flight number ≡ Some message → IsOutgoing book.case (own_view book) message
-flying-at book flight number message each at = by_place (slice_get flight number) refl at
+-- what holds of all that is in flight holds of a message there
+pub placed-at : (P : Outgoing → Type 0) (flight : List (Option Outgoing)) (number : ℕ) (message : Outgoing)
+    → All (λ (place : Option Outgoing). IfSome place P) flight → in_flight flight number ≡ Some message → P message
+placed-at P flight number message each at = by_place (slice_get flight number) refl at
   where
-    by_place : (o : Option (Option Outgoing)) → slice_get flight number ≡ o → unwrap_or o None ≡ Some message
-        → IsOutgoing book.case (own_view book) message
+    by_place : (o : Option (Option Outgoing)) → slice_get flight number ≡ o → unwrap_or o None ≡ Some message → P message
     by_place None there e = absurd cc
     by_place (Some place) there e =
-        let found : IsFlying book place = subst (IsFlying book) (get_or_from_slice_get flight number place place there)
-        (All-get_or (IsFlying book) flight number place (slice_get_within flight number place there) each) in
-        subst (IsFlying book) e found
+        let found : IfSome place P =
+        subst (λ (o : Option Outgoing). IfSome o P) (get_or_from_slice_get flight number place place there)
+        (All-get_or (λ (o : Option Outgoing). IfSome o P) flight number place (slice_get_within flight number place there) each) in
+        subst (λ (o : Option Outgoing). IfSome o P) e found
+
+-- so it may have been sent
+pub flying-at : (book : BookView) (flight : List (Option Outgoing)) (number : ℕ) (message : Outgoing)
+    → All (IsFlying book) flight → in_flight flight number ≡ Some message → IsOutgoing book.case (own_view book) message
+flying-at book flight number message each at = placed-at (IsOutgoing book.case (own_view book)) flight number message each at
 
 -- ---- what the script does
 
@@ -130,11 +135,14 @@ copied-if number world copied b = if b
       left = world.left ++ to_pass world number ∷ [];
     } else nothing world 0
 
--- whether there is one, in a scripted world
+-- whether there is one, with notes or without
+pub one-number : (flight : List (Option (Message NoNote))) → has_numbers (flight_of flight) 1 ≡ nat_le (length flight + 1) (2 ^ 32)
+one-number flight = ap (λ n. nat_le (n + 1) (2 ^ 32)) (length-map flight noteless)
+
+-- and in a scripted world
 room-is : (world : World) (flight : List (Option (Message NoNote))) (b : Bool) → world.flight ≡ flight_of flight
     → nat_le (length flight + 1) (2 ^ 32) ≡ b → has_numbers world.flight 1 ≡ b
-room-is world flight b same room =
-    ap (λ n. nat_le (n + 1) (2 ^ 32)) (ap length same ∙ length-map flight noteless) ∙ room
+room-is world flight b same room = ap (λ f. has_numbers f 1) same ∙ one-number flight ∙ room
 
 -- no message is copied where there is no number for it
 pub repeat-full : (number : ℕ) (flight : List (Option (Message NoNote))) (message : Message NoNote)

@@ -3,10 +3,9 @@ use Rattle.std.proofs.Common.{◌≡◌, ◌∙◌, ◌+◌, ◌-◌, ◌≤◌,
 use Rattle.std.specs.Prelude.{Option, None, Some, All, IfOk, OnErr, Result, Ok, Err, if◌then◌else◌, nat_le, slice_get, slice_set, unwrap_or}
 use Rattle.std.specs.Option.{option_map_or}
 use Rattle.std.proofs.lemmas.Bool.{leb-true}
-use Rattle.std.proofs.lemmas.List.{append-nil, length-map, length-set, set-get_or}
+use Rattle.std.proofs.lemmas.List.{length-map, length-set, map-append, set-get_or}
 use Rattle.std.proofs.lemmas.List.Elements.{All-push, All-set}
 use Rattle.std.proofs.lemmas.Option.{unwrap_or-slice_get}
-use Rattle.mw_types.specs.declared.entry.Entry.{Entry}
 use Rattle.mw_types.specs.declared.identity.RecordId.{RecordId}
 use Rattle.mw_types.specs.declared.identity.RowName.{RowName}
 use Rattle.topology.specs.Folding.{RoutesView}
@@ -22,11 +21,11 @@ use Rattle.outbox.specs.declared.outgoing.Outgoing.TheVariants as outgoing
 use Rattle.weak_relay.specs.Relays.{holds, with_id, without_id}
 use Rattle.plans.specs.declared.step.Step.TheVariants as steps
 use Rattle.world.specs.scripts.Acts.{Acted, Deed, act, done, has_numbers, lose_message, nothing, pass_on, passed_on, relay, relay_message, relay_next, stays, without_message}
-use Rattle.world.specs.scripts.Relaying.{HasRelayed, IsPassedIn, Passing, passed_in, told_by, word_in}
+use Rattle.world.specs.scripts.Relaying.{AreRelaysOf, HasRelayed, Passing, passed_in, passing_of, told_by, word_in}
 use Rattle.world.specs.scripts.Standing.{AreOnWay, IsFlying, IsWorld}
 use Rattle.world.specs.scripts.WorldStates.{WorldState, flight_of, noteless, world_of}
 use Rattle.world.specs.scripts.Worlds.{World, held_by, in_flight, is_next, relays_on, to_pass}
-use Rattle.world.proofs.scripts.FlightLaws.{changes-done, flying-at}
+use Rattle.world.proofs.scripts.FlightLaws.{changes-done, flight-at, flight-gone, flying-at, one-number}
 use Rattle.world.proofs.scripts.OnWays.{on_way-gone, on_way-passed}
 
 -- ---- a deed of a relay, by what it comes to
@@ -108,7 +107,7 @@ passed-deed world number message m held there = by_room (has_numbers world.fligh
         (sym (relays-same world number))
 
 -- a record
-pub record-deed : (world : World) (number message : ℕ) (m : Outgoing) (id : RecordId) → in_flight world.flight message ≡ Some m
+record-deed : (world : World) (number message : ℕ) (m : Outgoing) (id : RecordId) → in_flight world.flight message ≡ Some m
     → told_by m ≡ (id, false) → relay_message number message world m
     ≡ deed_in world number (passed_in message (with_id id (held_by world number)) (passing_at world number))
 record-deed world number message (outgoing.Deliver delivery sender) id there told =
@@ -117,6 +116,14 @@ record-deed world number message (outgoing.Deliver delivery sender) id there tol
     (ap (λ (t : RecordId × Bool). t.0) told)
 record-deed world number message (outgoing.Ack to one) id there told =
     let same : true ≡ false = ap (λ (t : RecordId × Bool). t.1) told in absurd cc
+
+-- a record, where the relay holds these ids
+pub record-deed-of : (world : World) (number message : ℕ) (m : Outgoing) (id : RecordId) (was : List RecordId)
+    → in_flight world.flight message ≡ Some m → told_by m ≡ (id, false) → held_by world number ≡ was
+    → relay_message number message world m ≡ deed_in world number (passed_in message (with_id id was) (passing_at world number))
+record-deed-of world number message m id was there told holding =
+    record-deed world number message m id there told
+    ∙ ap (λ (held : List RecordId). deed_in world number (passed_in message (with_id id held) (passing_at world number))) holding
 
 -- word of a record
 pub word-deed : (world : World) (number message : ℕ) (m : Outgoing) (id : RecordId) → in_flight world.flight message ≡ Some m
@@ -137,6 +144,49 @@ word-deed world number message (outgoing.Ack to one) id there told = by_held (ho
       relays = rs;
     }) (sym (relays-same world number))
 
+-- ---- what a relay does with messages that have notes
+
+-- a message passes
+pub passed-more : (message : ℕ) (flight after : List (Option (Message NoNote))) (left fewer : List ℕ) (was held new : List RecordId)
+    → nat_le (length flight + 1) (2 ^ 32) ≡ true
+    → after ≡ slice_set flight message None ++ unwrap_or (slice_get flight message) None ∷ []
+    → fewer ≡ left ++ (unwrap_or (slice_get left message) 0 - 1) ∷ [] → new ≡ held
+    → (outcomes.Sent 1, passing_of after fewer new) ≡ passed_in message held (passing_of flight left was)
+passed-more message flight after left fewer was held new room behind less holding =
+    (λ i. (outcomes.Sent 1, record { flight = flies i; left = less i; held = holding i }))
+    ∙ ap (λ b. if b then (outcomes.Sent 1, record {
+      flight = without_message message (flight_of flight) ++ in_flight (flight_of flight) message ∷ [];
+      left = left ++ (unwrap_or (slice_get left message) 0 - 1) ∷ [];
+      held = held;
+    }) else (outcomes.Nothing, passing_of flight left was)) (sym (one-number flight ∙ room))
+  where
+    flies : flight_of after ≡ without_message message (flight_of flight) ++ in_flight (flight_of flight) message ∷ []
+    flies = ap (λ f. flight_of f) behind
+        ∙ map-append noteless (slice_set flight message None) (unwrap_or (slice_get flight message) None ∷ [])
+        ∙ ap (λ f. f ++ noteless (unwrap_or (slice_get flight message) None) ∷ []) (flight-gone flight message)
+        ∙ ap (λ place. without_message message (flight_of flight) ++ place ∷ []) (sym (flight-at flight message))
+
+-- word passes where its record's id is held
+pub word-more : (message : ℕ) (id : RecordId) (flight after : List (Option (Message NoNote))) (left fewer : List ℕ)
+    (was new : List RecordId) → holds was id ≡ true → nat_le (length flight + 1) (2 ^ 32) ≡ true
+    → after ≡ slice_set flight message None ++ unwrap_or (slice_get flight message) None ∷ []
+    → fewer ≡ left ++ (unwrap_or (slice_get left message) 0 - 1) ∷ [] → new ≡ without_id id was
+    → (outcomes.Sent 1, passing_of after fewer new) ≡ word_in message id (passing_of flight left was)
+word-more message id flight after left fewer was new has room behind less holding =
+    passed-more message flight after left fewer was (without_id id was) new room behind less holding
+    ∙ ap (λ b. if b then passed_in message (without_id id was) (passing_of flight left was)
+    else (outcomes.Lost, record (passing_of flight left was) { flight = without_message message (flight_of flight) })) (sym has)
+
+-- and is lost where it is not
+pub word-lost : (message : ℕ) (id : RecordId) (flight after : List (Option (Message NoNote))) (left : List ℕ) (was : List RecordId)
+    → holds was id ≡ false → after ≡ slice_set flight message None
+    → (outcomes.Lost, passing_of after left was) ≡ word_in message id (passing_of flight left was)
+word-lost message id flight after left was lacks gone =
+    ap (λ (f : List (Option Outgoing)). (outcomes.Lost, record (passing_of flight left was) { flight = f }))
+    (ap (λ f. flight_of f) gone ∙ flight-gone flight message)
+    ∙ ap (λ b. if b then passed_in message (without_id id was) (passing_of flight left was)
+    else (outcomes.Lost, record (passing_of flight left was) { flight = without_message message (flight_of flight) })) (sym lacks)
+
 -- ---- as the script does
 
 -- a deed of a relay that leaves this
@@ -149,7 +199,7 @@ relayed-as case world number message outcome after fewer held is =
 
 -- all stays
 stays-deed : (world : World) (routes : RoutesView) (flight : List (Option Outgoing)) (left : List ℕ) (relays : List (List RecordId))
-    → IsPassedIn routes flight left relays world
+    → AreRelaysOf routes flight left relays world
     → record (stays world 0 outcomes.Nothing) { flight = flight; left = left; relays = relays } ≡ nothing world 0
 stays-deed world routes flight left relays is =
     let flies = sym is.flight in
@@ -166,6 +216,15 @@ relayed-not number message routes flight left relays at case world is =
     ∙ ap (λ o. option_map_or (relay_next number message world) o (nothing world 0))
     (sym (ap (λ f. in_flight f message) is.flight ∙ at)))
 
+-- whether it comes to the relay, in a scripted world
+next-in : (number message : ℕ) (m : Outgoing) (routes : RoutesView) (flight : List (Option Outgoing)) (left : List ℕ)
+    (relays : List (List RecordId)) (world : World) → AreRelaysOf routes flight left relays world
+    → is_next number (relays_on world.routes m) m (to_pass world message)
+    ≡ is_next number (relays_on routes m) m (unwrap_or (slice_get left message) 0)
+next-in number message m routes flight left relays world is =
+    ap (λ (r : RoutesView). is_next number (relays_on r m) m (to_pass world message)) is.routes
+    ∙ ap (λ (l : List ℕ). is_next number (relays_on routes m) m (unwrap_or (slice_get l message) 0)) is.left
+
 -- another relay comes first, or none
 pub relayed-other : (number message : ℕ) (m : Outgoing) (routes : RoutesView) (flight : List (Option Outgoing)) (left : List ℕ)
     (relays : List (List RecordId)) → in_flight flight message ≡ Some m
@@ -177,15 +236,6 @@ relayed-other number message m routes flight left relays at other case world is 
     (sym (next-in number message m routes flight left relays world is ∙ other))
     ∙ ap (λ o. option_map_or (relay_next number message world) o (nothing world 0))
     (sym (ap (λ f. in_flight f message) is.flight ∙ at)))
-
--- whether it comes to the relay, in a scripted world
-next-in : (number message : ℕ) (m : Outgoing) (routes : RoutesView) (flight : List (Option Outgoing)) (left : List ℕ)
-    (relays : List (List RecordId)) (world : World) → IsPassedIn routes flight left relays world
-    → is_next number (relays_on world.routes m) m (to_pass world message)
-    ≡ is_next number (relays_on routes m) m (unwrap_or (slice_get left message) 0)
-next-in number message m routes flight left relays world is =
-    ap (λ (r : RoutesView). is_next number (relays_on r m) m (to_pass world message)) is.routes
-    ∙ ap (λ (l : List ℕ). is_next number (relays_on routes m) m (unwrap_or (slice_get l message) 0)) is.left
 
 -- it comes to the relay, which does this with what it sees
 pub relayed-by : (number message : ℕ) (m : Outgoing) (routes : RoutesView) (flight : List (Option Outgoing)) (left : List ℕ)
@@ -228,7 +278,7 @@ pub record AreStanding (book : BookView) (routes : RoutesView) (flight : List (O
   pub flying : All (IsFlying book) flight
   pub few : length flight ≤ 2 ^ 32
   pub on_way : AreOnWay routes flight left
-  pub relays : length relays ≡ routes.weaks
+  pub counted : length relays ≡ routes.weaks
 
 -- once a message came to a relay
 standing-relayed : (case : CaseShape) (book : BookView) (number message : ℕ) (world : World)
@@ -244,13 +294,13 @@ standing-relayed case book number message world are =
           (All-set (IsFlying book) world.flight message None tt are.flying) (flying-at book world.flight message m are.flying there);
       few = subst (λ n. n ≤ 2 ^ 32) (sym (added ∙ ap (λ n. n + 1) kept)) most;
       on_way = on_way-passed world.routes world.flight world.left message m are.on_way there;
-      relays = length-set world.relays number held ∙ are.relays;
+      counted = length-set world.relays number held ∙ are.counted;
     })
     (λ m there. record {
       flying = All-set (IsFlying book) world.flight message None tt are.flying;
       few = subst (λ n. n ≤ 2 ^ 32) (sym (length-set world.flight message None)) are.few;
       on_way = on_way-gone world.routes world.flight world.left message are.on_way;
-      relays = are.relays;
+      counted = are.counted;
     })
 
 -- a world in which what is in flight, what that has to pass and what relays hold stands is one
@@ -265,7 +315,7 @@ standing-world state flight left relays is are = record {
   flying = are.flying;
   few = subst (λ n. n ≤ 2 ^ 32) (length-map flight noteless) are.few;
   on_way = are.on_way;
-  relays = are.relays;
+  relays = are.counted;
   routed = is.routed;
 }
 
@@ -276,7 +326,7 @@ world-standing state is = record {
   flying = is.flying;
   few = subst (λ n. n ≤ 2 ^ 32) (sym (length-map state.flight noteless)) is.few;
   on_way = is.on_way;
-  relays = is.relays;
+  counted = is.relays;
 }
 
 -- and where a message came to a relay, or want of memory left all as it was

@@ -77,18 +77,19 @@ word_in message id was = if holds was.held id
     then passed_in message (without_id id was.held) was
     else (outcomes.Lost, record was { flight = without_message message was.flight })
 
--- what is in flight, what that has to pass, and what relays hold, of a scripted world with these routes
-pub record IsPassedIn (routes : RoutesView) (flight : List (Option Outgoing)) (left : List ℕ)
-    (relays : List (List RecordId)) (world : World) : Type 0 where
-  pub routes : world.routes ≡ routes
-  pub flight : world.flight ≡ flight
-  pub left : world.left ≡ left
-  pub relays : world.relays ≡ relays
+-- a scripted world has these routes, these messages in flight with what they have to pass, and relays that
+-- hold these ids
+pub record AreRelaysOf (ways : RoutesView) (messages : List (Option Outgoing)) (numbers : List ℕ)
+    (holding : List (List RecordId)) (world : World) : Type 0 where
+  pub routes : world.routes ≡ ways
+  pub flight : world.flight ≡ messages
+  pub left : world.left ≡ numbers
+  pub relays : world.relays ≡ holding
 
 -- a message came to a relay as it does in each scripted world where this is in flight, and relays hold this
 abbrev pub HasRelayed : ℕ → ℕ → RoutesView → List (Option Outgoing) → List ℕ → List (List RecordId) →
     List (Option Outgoing) → List ℕ → List (List RecordId) → Outcome → Type 0
 HasRelayed relay message routes flight left relays after fewer held outcome =
-    (case : CaseShape) (world : World) → IsPassedIn routes flight left relays world →
+    (case : CaseShape) (world : World) → AreRelaysOf routes flight left relays world →
     (outcome, record world { flight = after; left = fewer; relays = held })
     ≡ act case world (steps.Relay relay message)
