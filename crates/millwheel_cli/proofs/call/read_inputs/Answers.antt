@@ -18,18 +18,18 @@ returns-in-Err-clause-refused g c =
     )
 
 -- the task is that of what was read
-pub returns-in-Ok-clause-asked : goal.returns-in-Ok-clause-asked
-returns-in-Ok-clause-asked g c =
+pub returns-in_ok-task_of-in-Ok-clause-asked : goal.returns-in_ok-task_of-in-Ok-clause-asked
+returns-in_ok-task_of-in-Ok-clause-asked g c =
     let first = c.in_ok-bare.ensures in
-    let made = c.in_ok-task_of.ensures in
+    let made = c.in_ok-task_of-in-Ok.ensures in
     inputs_task _ c.args.call.now c.args.inputs.now _ _ _ _ _ first.left first.before (search rules) made.case made.routes made.before
     (search rules)
 
 -- and folds a topology
-pub returns-in-Ok-clause-folding : goal.returns-in-Ok-clause-folding
-returns-in-Ok-clause-folding g c =
+pub returns-in_ok-task_of-in-Ok-clause-folding : goal.returns-in_ok-task_of-in-Ok-clause-folding
+returns-in_ok-task_of-in-Ok-clause-folding g c =
     let first = c.in_ok-bare.ensures in
-    let made = c.in_ok-task_of.ensures in
+    let made = c.in_ok-task_of-in-Ok.ensures in
     record {
       file = first.left.shape;
       left = ap (λ (c : CaseShape). c.topology) made.case ∙ first.left.folding;
