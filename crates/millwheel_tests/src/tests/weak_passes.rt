@@ -104,6 +104,41 @@ fn a_plan_names_relays_that_are_there(rt: HostRuntime) {
     all_are_refused(&rt, rt.alloc(), &UNNAMED);
 }
 
+// Six weak passes of which each reads the one before it twice, so that a count reads the injector 64 times; and a count
+// that reads it once more by itself.
+const DOUBLED: &str =
+    r#"{"injectors":[{"name":"clicks","stream":"raw"}],"computations":[{"name":"a","kind":"pass","weak":true,"reads":[{"stream":"raw","by":"key"},{"stream":"raw","by":"key"}],"stream":"two"},{"name":"b","kind":"pass","weak":true,"reads":[{"stream":"two","by":"key"},{"stream":"two","by":"key"}],"stream":"four"},{"name":"c","kind":"pass","weak":true,"reads":[{"stream":"four","by":"key"},{"stream":"four","by":"key"}],"stream":"eight"},{"name":"d","kind":"pass","weak":true,"reads":[{"stream":"eight","by":"key"},{"stream":"eight","by":"key"}],"stream":"sixteen"},{"name":"e","kind":"pass","weak":true,"reads":[{"stream":"sixteen","by":"key"},{"stream":"sixteen","by":"key"}],"stream":"half"},{"name":"f","kind":"pass","weak":true,"reads":[{"stream":"half","by":"key"},{"stream":"half","by":"key"}],"stream":"all"},{"name":"per_minute","kind":"count","size":60,"reads":[{"stream":"all","by":"key"}],"stream":"windows"}]}"#;
+
+const DOUBLED_AND_ONE: &str =
+    r#"{"injectors":[{"name":"clicks","stream":"raw"}],"computations":[{"name":"a","kind":"pass","weak":true,"reads":[{"stream":"raw","by":"key"},{"stream":"raw","by":"key"}],"stream":"two"},{"name":"b","kind":"pass","weak":true,"reads":[{"stream":"two","by":"key"},{"stream":"two","by":"key"}],"stream":"four"},{"name":"c","kind":"pass","weak":true,"reads":[{"stream":"four","by":"key"},{"stream":"four","by":"key"}],"stream":"eight"},{"name":"d","kind":"pass","weak":true,"reads":[{"stream":"eight","by":"key"},{"stream":"eight","by":"key"}],"stream":"sixteen"},{"name":"e","kind":"pass","weak":true,"reads":[{"stream":"sixteen","by":"key"},{"stream":"sixteen","by":"key"}],"stream":"half"},{"name":"f","kind":"pass","weak":true,"reads":[{"stream":"half","by":"key"},{"stream":"half","by":"key"}],"stream":"all"},{"name":"per_minute","kind":"count","size":60,"reads":[{"stream":"all","by":"key"},{"stream":"raw","by":"key"}],"stream":"windows"}]}"#;
+
+// One record.
+const ONE: &str = "{\"key\":\"a\",\"ts\":10}\n";
+
+// Which comes by each reading.
+const COUNTED: &str = "{\"key\":\"a\",\"stream\":\"windows\",\"ts\":60,\"value\":64}
+{\"fired\":1,\"handled\":64,\"injected\":1,\"late\":0}
+";
+
+static MOST: [Case; 1] = [(
+    "64 readings are left",
+    PLAIN,
+    &[("t.json", DOUBLED), ("e", ONE)],
+    Look::Writes(COUNTED),
+)];
+
+static TOO_MANY: [Refusal; 1] = [(
+    PLAIN,
+    &[("t.json", DOUBLED_AND_ONE), ("e", ONE)],
+    "topology refused: BadWeak",
+)];
+
+#[test]
+fn at_most_sixty_four_readings_are_left(rt: HostRuntime) {
+    all_hold(&rt, rt.alloc(), &MOST);
+    all_are_refused(&rt, rt.alloc(), &TOO_MANY);
+}
+
 // A topology, with `~` where it says of each of its passes whether that is weak.
 type Twin = (&'static str, &'static str);
 
