@@ -9,7 +9,6 @@ use Rattle.book.specs.Books.{BookView}
 use Rattle.book.specs.declared.own_desk.NoNote.{NoNote}
 use Rattle.node.specs.Workers.{NodeView, worker_at}
 use Rattle.node.specs.declared.message.Message.{Message}
-use Rattle.node.specs.declared.outcome.NodeFault.TheVariants as faults
 use Rattle.node.specs.declared.outcome.Outcome.{Outcome}
 use Rattle.world.specs.scripts.Acts.{act}
 use Rattle.world.specs.scripts.Relaying.{AreRouted, sent_left}

@@ -2,7 +2,7 @@ use Rattle.std.proofs.Common.{◌≡◌, ◌∙◌, ◌++◌, ◌-◌, ap, drop,
 use Rattle.std.specs.Prelude.{IfSome, Option}
 use Rattle.std.proofs.lemmas.List.Elements.{All-drop}
 use Rattle.outbox.specs.declared.outgoing.Outgoing.{Outgoing}
-use Rattle.world.specs.scripts.Relaying.{AreRouted, IsRouted, sent_left, way_length}
+use Rattle.world.specs.scripts.Relaying.{AreRouted, IsRouted, way_length}
 use Rattle.world.specs.scripts.WorldStates.{flight_of}
 use Rattle.world.proofs.scripts.FlightLaws.{flight-from}
 use Rattle.world.proofs.scripts.relays.note_sent.Goals as goal

@@ -1,4 +1,4 @@
-use Rattle.std.proofs.Common.{◌≡◌, ◌∙◌, List, ℕ, ap, length, refl, subst, sym}
+use Rattle.std.proofs.Common.{◌≡◌, ◌∙◌, List, ℕ, ap, length, subst, sym}
 use Rattle.std.specs.Prelude.{IfOk, OnErr}
 use Rattle.node.specs.Workers.{idle}
 use Rattle.plans.specs.declared.step.Step.TheVariants as steps
