@@ -2,21 +2,23 @@
 //! messages come twice or are lost, in any order; the world that does the steps of a script for real; and the
 //! order in which one thread works off what is left.
 //!
-//! A script is a list of steps, which a schedule of `plans` gives one a line. A drain claims each interval,
-//! and then writes the one entry that its rules name, until none is left to write. Each law of scripts, of
-//! drains and of rounds of reports is the contract of a function with an empty body. Stands on `node`, on
-//! `plans` and on the crates below them. Public contract: where a contract can see the keeper's rows a step of
-//! a `World` answers what the scripted world does, and leaves that world, and over every keeper it appends at
-//! most one entry, and an answer that names a number has its cause; each history that a script writes is
-//! fenced, and a copy of a record is a duplicate exactly where its record was handled; `drain` returns over
-//! every keeper, and where a contract can see the keeper's rows it writes exactly the entries of its order,
-//! each by a `drain_turn`, and after Ok none is left.
+//! A script is a list of steps, which a schedule of `plans` gives one a line. A message passes the relays on
+//! its way, each of which stands for a weak computation that folding left out, before a worker takes it. A
+//! drain claims each interval, and then writes the one entry that its rules name, until none is left to
+//! write. Each law of scripts, of relays, of drains and of rounds of reports is the contract of a function
+//! with an empty body. Stands on `node`, on `plans`, on `weak_relay` and on the crates below them. Public
+//! contract: where a contract can see the keeper's rows a step of a `World` answers what the scripted world
+//! does, and leaves that world, and over every keeper it appends at most one entry, and an answer that names
+//! a number has its cause; each history that a script writes is fenced, and a copy of a record is a duplicate
+//! exactly where its record was handled; `drain` returns over every keeper, and where a contract can see the
+//! keeper's rows it writes exactly the entries of its order, each by a `drain_turn`, and after Ok none is
+//! left.
 //! Definitions, in `specs/scripts`: `Worlds.antt` and `Acts.antt`, what the scripted world is and what a step
-//! does; `Keeping.antt` and `Copies.antt`, what the laws say; `Scripts.antt`, the worked scripts;
-//! `WorldStates.antt` and `Stepping.antt`, what it means that steps are done for real. In `specs/drains`:
-//! `Drains.antt`, what a drain writes; `DrainTurns.antt`, when one is under way; `ReportRounds.antt`, a round
-//! of reports. In `specs`, of both: `Replays.antt`, which histories a script and the drain after it leave;
-//! `WorldDrains.antt`, when a drain of a world is under way.
+//! does; `Keeping.antt` and `Copies.antt`, what the laws say; `Scripts.antt` and `RelayScripts.antt`, the
+//! worked scripts; `WorldStates.antt` and `Stepping.antt`, what it means that steps are done for real. In
+//! `specs/drains`: `Drains.antt`, what a drain writes; `DrainTurns.antt`, when one is under way;
+//! `ReportRounds.antt`, a round of reports. In `specs`, of both: `Replays.antt`, which histories a script and
+//! the drain after it leave; `WorldDrains.antt`, when a drain of a world is under way.
 #![tactic(auto)]
 
 mod drains;

@@ -27,8 +27,9 @@ use row_keeper::Keeper;
 use std::alloc::Global;
 
 impl<'a, K: Keeper, C: Computation + Drop> World<'a, K, C> {
-    /// Works off all that is left to do, once every worker has crashed and every message is lost; the
-    /// messages that are sent after it are numbered from 0 again. It returns over every keeper.
+    /// Works off all that is left to do, once every worker has crashed, every message is lost and every
+    /// relay has forgotten; the messages that are sent after it are numbered from 0 again. It returns over
+    /// every keeper.
     pub fn drain(&mut self, alloc: Global) -> Result<(), NodeFault>
         ensures case { self.new.book.case ≡ self.old.book.case }
         ensures routes { self.new.routes ≡ self.old.routes }
@@ -37,7 +38,7 @@ impl<'a, K: Keeper, C: Computation + Drop> World<'a, K, C> {
         ensures grown { Begins self.old.book.history self.new.book.history }
         ensures faults { self.old.book.faults ≤ self.new.book.faults }
 
-        // After Ok no worker has anything, and nothing is in flight.
+        // After Ok no worker has anything, nothing is in flight, and no relay holds an id.
         ensures begun { OnOk result (world_of self.new
             ≡ world_on self.new.routes self.new.book.history self.new.book.marks) }
 
@@ -72,8 +73,8 @@ impl<'a, K: Keeper, C: Computation + Drop> World<'a, K, C> {
         drain(alloc, &mut self.book, &self.work)
     }
 
-    /// Begins a drain, of which each next entry is a turn: every worker crashes, and every message is
-    /// lost. It takes no memory.
+    /// Begins a drain, of which each next entry is a turn: every worker crashes, every message is lost, and
+    /// every relay forgets. It takes no memory.
     pub fn begin_drain(&mut self, alloc: Global) -> Drain
         ensures book { self.new.book ≡ self.old.book }
         ensures begun { world_of self.new
@@ -104,7 +105,7 @@ impl<'a, K: Keeper, C: Computation + Drop> World<'a, K, C> {
             self.new.book.limit - length self.new.book.history
             < self.old.book.limit - length self.old.book.history) }
 
-        // No worker has anything then, and nothing is in flight.
+        // No worker has anything then, nothing is in flight, and no relay holds an id.
         ensures begun { world_of self.new
             ≡ world_on self.new.routes self.new.book.history self.new.book.marks }
 
