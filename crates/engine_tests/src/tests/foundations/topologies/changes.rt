@@ -152,17 +152,22 @@ fn push_above(rt: &impl Abort, alloc: Global, text: &mut String, number: u32) {
     }
 }
 
+// Appends a weak pass of this number.
+fn push_weak(rt: &impl Abort, alloc: Global, text: &mut String, number: u32) {
+    push_all(rt, alloc, text, WEAK, number, number.saturating_add(1));
+    push_above(rt, alloc, text, number);
+    push_parts(rt, text, &[(",", 1)]);
+    push_above(rt, alloc, text, number);
+    push_parts(rt, text, &[("]}", 1)]);
+}
+
 // Appends a file with so many weak passes, and so many readings of the injector beside that of the last one.
 fn push_doubled(rt: &impl Abort, alloc: Global, text: &mut String, weaks: u32, more: u32) {
     push_parts(rt, text, &[(r#"{"injectors":["#, 1)]);
     push_all(rt, alloc, text, INJECTOR, 0, 1);
     push_parts(rt, text, &[(r#"],"computations":["#, 1)]);
     for at in 0..weaks {
-        push_all(rt, alloc, text, WEAK, at, at.saturating_add(1));
-        push_above(rt, alloc, text, at);
-        push_parts(rt, text, &[(",", 1)]);
-        push_above(rt, alloc, text, at);
-        push_parts(rt, text, &[("]}", 1)]);
+        push_weak(rt, alloc, text, at);
     }
     push_all(rt, alloc, text, COUNT, weaks, weaks.saturating_add(1));
     push_above(rt, alloc, text, weaks);
