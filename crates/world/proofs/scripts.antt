@@ -23,4 +23,5 @@ pub mod TakeSteps
 pub mod SendSteps
 pub mod StepLaws
 pub mod SendWorlds
+pub mod CopyWorlds
 pub mod FullSteps

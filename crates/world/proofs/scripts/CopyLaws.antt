@@ -1,5 +1,5 @@
 -- What a copy of a record meets that comes at any time.
-use Rattle.std.proofs.Common.{◌≡◌, ◌≢◌, ◌∙◌, ◌<◌, ◌≤◌, ◌+◌, ℕ, Bool, true, false, List, ◌++◌, fold, length, refl, sym, ap, subst, arith, inl, inr}
+use Rattle.std.proofs.Common.{◌≡◌, ◌≢◌, ◌∙◌, ◌<◌, ◌≤◌, ℕ, Bool, true, false, List, ◌++◌, fold, length, refl, sym, ap, subst, arith, inl, inr}
 use Rattle.std.specs.Prelude.{if◌then◌else◌, ◌⊎◌, Option, None, Some, IsSome}
 use Rattle.std.specs.List.{AllByRecursion}
 use Rattle.mw_types.specs.declared.delivery.Delivery.{Delivery}

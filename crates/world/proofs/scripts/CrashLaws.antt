@@ -6,9 +6,7 @@ use Rattle.book.specs.Lawful.{IsLawful}
 use Rattle.book.specs.OwnDesks.{own_view}
 use Rattle.book.proofs.OwnLaws.{sound}
 use Rattle.node.specs.Workers.{NodeView, Worker, idle, worker_at}
-use Rattle.node.specs.declared.outcome.Outcome.TheVariants as outcomes
 use Rattle.node.proofs.FitLaws.{grown_looked, looked_not}
-use Rattle.plans.specs.declared.step.Step.TheVariants as steps
 use Rattle.world.specs.scripts.Standing.{FitsOwn}
 use Rattle.world.specs.scripts.WorkerCalls.{HasCalled, HasLeases}
 

@@ -1,8 +1,8 @@
 -- Messages that come into flight, and that leave it.
-use Rattle.std.proofs.Common.{◌≡◌, ◌∙◌, ◌+◌, ◌^◌, ◌++◌, ◌∷◌, ℕ, Bool, true, false, List, [], length, length-append, inr, refl, sym, ap, subst}
+use Rattle.std.proofs.Common.{◌≡◌, ◌∙◌, ◌+◌, ◌-◌, ◌^◌, ◌++◌, ◌∷◌, ℕ, Bool, true, false, List, [], length, length-append, drop, take, inr, refl, sym, ap, subst, arith}
 use Rattle.std.specs.Prelude.{Option, None, Some, All, IfSome, if◌then◌else◌, nat_le, slice_get, slice_set, unwrap_or}
 use Rattle.std.specs.Option.{option_map, option_map_or}
-use Rattle.std.proofs.lemmas.List.{append-nil, length-map, map-append, map-set}
+use Rattle.std.proofs.lemmas.List.{append-nil, drop-map, length-drop, length-map, map-append, map-set, take_all}
 use Rattle.std.proofs.lemmas.List.Elements.{All-get_or, All-push, All-set}
 use Rattle.std.proofs.lemmas.Option.{get_or_from_slice_get, slice_get-map, slice_get_within}
 use Rattle.mw_types.specs.declared.entry.Entry.{Entry}
@@ -37,6 +37,12 @@ flight-at flight number =
     by_place : (o : Option (Option (Message NoNote))) → unwrap_or (option_map noteless o) None ≡ noteless (unwrap_or o None)
     by_place None = refl
     by_place (Some place) = refl
+
+-- what is in flight from a number on
+pub flight-from : (flight : List (Option (Message NoNote))) (n : ℕ)
+    → flight_of (take (length flight - n) (drop n flight)) ≡ drop n (flight_of flight)
+flight-from flight n = let size = length-drop n flight in
+    ap (λ f. flight_of f) (take_all (length flight - n) (drop n flight) (omega (arith, size))) ∙ sym (drop-map noteless n flight)
 
 -- what is in flight once a place is emptied
 pub flight-gone : (flight : List (Option (Message NoNote))) (number : ℕ)

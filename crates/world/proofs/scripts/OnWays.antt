@@ -11,7 +11,7 @@ use Rattle.topology.specs.Folding.{RoutesView}
 use Rattle.topology.specs.Shapes.{parts_of}
 use Rattle.book.specs.Books.{BookView}
 use Rattle.book.specs.OwnDesks.{own_view}
-use Rattle.outbox.specs.Messages.{IsAddressed, IsOutgoing}
+use Rattle.outbox.specs.Messages.{IsOutgoing}
 use Rattle.outbox.specs.declared.outgoing.Outgoing.{Outgoing}
 use Rattle.outbox.specs.declared.outgoing.Outgoing.TheVariants as outgoing
 use Rattle.world.specs.scripts.Relaying.{AreRouted, IsRouted, copied_left, sent_left, way_length}

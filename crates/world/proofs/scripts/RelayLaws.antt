@@ -1,5 +1,5 @@
 -- A message that comes to a relay, as the script does it.
-use Rattle.std.proofs.Common.{◌≡◌, ◌∙◌, ◌+◌, ◌-◌, ◌≤◌, ◌^◌, ◌++◌, ◌∷◌, ℕ, Bool, true, false, List, [], length, refl, sym, ap, subst, arith, length-append}
+use Rattle.std.proofs.Common.{◌≡◌, ◌∙◌, ◌+◌, ◌-◌, ◌≤◌, ◌^◌, ◌++◌, ◌∷◌, ℕ, Bool, true, false, List, [], length, refl, sym, ap, subst, length-append}
 use Rattle.std.specs.Prelude.{Option, None, Some, All, IfOk, OnErr, Result, Ok, Err, if◌then◌else◌, nat_le, slice_get, slice_set, unwrap_or}
 use Rattle.std.specs.Option.{option_map_or}
 use Rattle.std.proofs.lemmas.Bool.{leb-true}
@@ -154,11 +154,14 @@ pub passed-more : (message : ℕ) (flight after : List (Option (Message NoNote))
     → (outcomes.Sent 1, passing_of after fewer new) ≡ passed_in message held (passing_of flight left was)
 passed-more message flight after left fewer was held new room behind less holding =
     (λ i. (outcomes.Sent 1, record { flight = flies i; left = less i; held = holding i }))
-    ∙ ap (λ b. if b then (outcomes.Sent 1, record {
-      flight = without_message message (flight_of flight) ++ in_flight (flight_of flight) message ∷ [];
-      left = left ++ (unwrap_or (slice_get left message) 0 - 1) ∷ [];
-      held = held;
-    }) else (outcomes.Nothing, passing_of flight left was)) (sym (one-number flight ∙ room))
+    ∙ ap (λ b. if b then (
+      outcomes.Sent 1,
+      record {
+        flight = without_message message (flight_of flight) ++ in_flight (flight_of flight) message ∷ [];
+        left = left ++ (unwrap_or (slice_get left message) 0 - 1) ∷ [];
+        held = held;
+      },
+    ) else (outcomes.Nothing, passing_of flight left was)) (sym (one-number flight ∙ room))
   where
     flies : flight_of after ≡ without_message message (flight_of flight) ++ in_flight (flight_of flight) message ∷ []
     flies = ap (λ f. flight_of f) behind

@@ -222,3 +222,19 @@ world-after state book number was node flight left is at called flying few on_wa
   relays = is.relays;
   routed = is.routed ∙ ap (λ (c : CaseShape). parts_of c.topology) (sym called.grown.moved.case);
 }
+
+-- and where what is in flight changed, and what that has to pass
+pub flown-world : (state : WorldState) (flight : List (Option (Message NoNote))) (left : List ℕ) → IsWorld state
+    → All (IsFlying state.book) (flight_of flight) → length flight ≤ 2 ^ 32 → AreOnWay state.routes (flight_of flight) left
+    → IsWorld (record state { flight = flight; left = left })
+flown-world state flight left is flying few on_way = record {
+  sixteen = is.sixteen;
+  numbered = is.numbered;
+  fit = is.fit;
+  claimed = is.claimed;
+  flying = flying;
+  few = few;
+  on_way = on_way;
+  relays = is.relays;
+  routed = is.routed;
+}

@@ -6,7 +6,7 @@ use Rattle.mw_types.specs.declared.entry.Entry.TheVariants as entries
 use Rattle.mw_types.specs.declared.kind.Kind.TheVariants.{Pass}
 use Rattle.topology.specs.Folding.{routes_in}
 use Rattle.topology.specs.Samples.{clicks_shape, per_minute_shape}
-use Rattle.topology.specs.Shapes.{Shape, ComputationShape, Reading}
+use Rattle.topology.specs.Shapes.{Shape, ComputationShape}
 use Rattle.topology.specs.declared.subscription.By.TheVariants.{Key}
 use Rattle.worked_examples.specs.Drained.{id_of, injector_row}
 use Rattle.worked_examples.specs.First.{first_case}

@@ -1,5 +1,5 @@
 -- What the functions of relays speak of. No public clause cites this module.
-use Rattle.std.specs.Prelude.{◌≡◌, ◌-◌, ◌<◌, ◌++◌, ◌∷◌, [], ℕ, Bool, true, false, if◌then◌else◌, List, All, Option, Some, IfSome, drop, length, map, nat_lt, slice_get, unwrap_or}
+use Rattle.std.specs.Prelude.{◌≡◌, ◌-◌, ◌<◌, ◌++◌, ◌∷◌, [], ℕ, Bool, true, false, if◌then◌else◌, List, All, Option, IfSome, drop, length, map, nat_lt, slice_get, unwrap_or}
 use Rattle.std.specs.Option.{option_map_or}
 use Rattle.mw_types.specs.declared.identity.RecordId.{RecordId}
 use Rattle.topology.specs.Folding.{RoutesView}

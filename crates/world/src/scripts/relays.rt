@@ -28,7 +28,7 @@ pub(crate) fn new_relays(alloc: Global, count: u32) -> Result<Relays, NoMemory>
     ensures { IfOk result (λ relays. relays.items ≡ replicate count []) }
 {
     let mut relays = Vec::new(alloc);
-    for _ in 0..count {
+    for number in 0..count {
         relays.push(Relay::new(alloc))?;
     }
     Ok(relays)

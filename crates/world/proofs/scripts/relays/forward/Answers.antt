@@ -1,4 +1,4 @@
-use Rattle.std.proofs.Common.{◌≡◌, ◌∙◌, ◌+◌, ◌++◌, ◌^◌, ◌∷◌, [], true, length, rules}
+use Rattle.std.proofs.Common.{◌≡◌, ◌+◌, ◌++◌, ◌^◌, ◌∷◌, [], true, length, rules}
 use Rattle.std.specs.Prelude.{None, nat_le, slice_get, slice_set, unwrap_or}
 use Rattle.weak_relay.specs.Relays.{with_id}
 use Rattle.world.proofs.scripts.RelayLaws.{passed-more}

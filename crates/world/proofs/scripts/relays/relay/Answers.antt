@@ -1,12 +1,11 @@
 use Rattle.std.proofs.Common.{◌≡◌, ◌∙◌, ◌≤◌, [], Bool, true, false, length, ap, subst, sym, rules}
-use Rattle.std.specs.Prelude.{IfOk, None, Some, slice_get, slice_set, unwrap_or}
+use Rattle.std.specs.Prelude.{None, Some, slice_get, unwrap_or}
 use Rattle.std.proofs.lemmas.Option.{slice_get-get_or}
-use Rattle.mw_types.specs.declared.identity.RecordId.{RecordId}
 use Rattle.node.specs.Received.{outgoing_of}
 use Rattle.weak_relay.specs.Relays.{with_id}
-use Rattle.world.specs.scripts.Relaying.{HasRelayed, IsRouted, passed_in, passing_of, told_by, word_in}
+use Rattle.world.specs.scripts.Relaying.{IsRouted, passed_in, passing_of, told_by, word_in}
 use Rattle.world.specs.scripts.WorldStates.{flight_of, noteless}
-use Rattle.world.specs.scripts.Worlds.{in_flight, is_next, relays_on}
+use Rattle.world.specs.scripts.Worlds.{is_next, relays_on}
 use Rattle.world.proofs.Results.{ok-then}
 use Rattle.world.proofs.scripts.FlightLaws.{flight-at, placed-at}
 use Rattle.world.proofs.scripts.OnWays.{on_way-at}

@@ -1,10 +1,9 @@
-use Rattle.std.proofs.Common.{◌≡◌, ◌++◌, List, ap, arith, drop, length, rules, subst, sym, take, ℕ, ◌∙◌}
-use Rattle.std.specs.Prelude.{Some, slice_get}
+use Rattle.std.proofs.Common.{◌≡◌, ◌++◌, [], List, ap, arith, drop, length, rules, subst, sym, take, ℕ, ◌∙◌}
+use Rattle.std.specs.Prelude.{Some, replicate, slice_get}
 use Rattle.node.specs.Workers.{NodeView}
 use Rattle.world.specs.scripts.Worlds.{world_on}
-use Rattle.world.specs.WorldDrains.{AreNew}
 use Rattle.world.specs.scripts.WorldStates.{WorldState, world_of}
-use Rattle.world.proofs.StartedWorlds.{crashed-whole, drained-world, draining-world}
+use Rattle.world.proofs.StartedWorlds.{IsIdle, crashed-whole, drained-world, draining-world}
 use Rattle.world.proofs.scripts.world.World.begin_drain.Goals as goal
 
 -- there are sixteen workers
@@ -25,11 +24,19 @@ invariant_of-self g c =
       book = c.self.inside.book;
       nodes = take was.len (c.crash_all.new.nodes ++ drop (length c.crash_all.new.nodes) was.items);
       flight = c.clear.new.self.items;
+      left = c.clear-2.new.self.items;
+      relays = c.forget_all.new.relays.items;
+      routes = c.self.inside.routes;
     } in
     let sixteen = c.self.invariant.0.sixteen in
-    let new : AreNew 16 state.nodes =
-    crashed-whole was.len c.crash_all.new.nodes (drop (length c.crash_all.new.nodes) was.items) (omega (arith, sixteen, was.ok.0)) c.crash_all.ensures.new in
-    (draining-world c.self.inside.book state new (search rules), c.self.invariant.1)
+    let idle : IsIdle state = record {
+      new = crashed-whole was.len c.crash_all.new.nodes (drop (length c.crash_all.new.nodes) was.items) (omega (arith, sixteen, was.ok.0))
+          c.crash_all.ensures.new;
+      none = search rules;
+      none_left = search rules;
+      forgot = c.forget_all.ensures ∙ ap (λ n. replicate n []) c.self.invariant.0.relays;
+    } in
+    (draining-world c.self.inside.book state idle c.self.invariant.0.routed, c.self.invariant.1)
 
 -- in which they have nothing
 pub returns-clause-begun : goal.returns-clause-begun
@@ -39,12 +46,20 @@ returns-clause-begun g c =
       book = c.self.inside.book;
       nodes = take was.len (c.crash_all.new.nodes ++ drop (length c.crash_all.new.nodes) was.items);
       flight = c.clear.new.self.items;
+      left = c.clear-2.new.self.items;
+      relays = c.forget_all.new.relays.items;
+      routes = c.self.inside.routes;
     } in
     let sixteen = c.self.invariant.0.sixteen in
-    let new : AreNew 16 state.nodes =
-    crashed-whole was.len c.crash_all.new.nodes (drop (length c.crash_all.new.nodes) was.items) (omega (arith, sixteen, was.ok.0)) c.crash_all.ensures.new in
-    subst (λ (s : WorldState). world_of state ≡ world_on s.book.history s.book.marks) c.self.view_is
-    (drained-world c.self.inside.book state new (search rules))
+    let idle : IsIdle state = record {
+      new = crashed-whole was.len c.crash_all.new.nodes (drop (length c.crash_all.new.nodes) was.items) (omega (arith, sixteen, was.ok.0))
+          c.crash_all.ensures.new;
+      none = search rules;
+      none_left = search rules;
+      forgot = c.forget_all.ensures ∙ ap (λ n. replicate n []) c.self.invariant.0.relays;
+    } in
+    subst (λ (s : WorldState). world_of state ≡ world_on s.routes s.book.history s.book.marks) c.self.view_is
+    (drained-world c.self.inside.book state idle)
 
 -- and the drain is under way
 pub returns-clause-drain : goal.returns-clause-drain
@@ -52,6 +67,9 @@ returns-clause-drain g c =
     let was = c.self.inside.nodes in
     let sixteen = c.self.invariant.0.sixteen in record {
       under_way = c.begin_drain.ensures.under_way;
-      idle = crashed-whole was.len c.crash_all.new.nodes (drop (length c.crash_all.new.nodes) was.items) (omega (arith, sixteen, was.ok.0)) c.crash_all.ensures.new;
+      idle = crashed-whole was.len c.crash_all.new.nodes (drop (length c.crash_all.new.nodes) was.items) (omega (arith, sixteen, was.ok.0))
+          c.crash_all.ensures.new;
       none = search rules;
+      none_left = search rules;
+      forgot = c.forget_all.ensures ∙ ap (λ n. replicate n []) c.self.invariant.0.relays;
     }

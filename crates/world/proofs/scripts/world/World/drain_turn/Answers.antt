@@ -1,8 +1,10 @@
-use Rattle.std.proofs.Common.{subst, sym}
+use Rattle.std.proofs.Common.{◌≡◌, ◌∙◌, ap, subst, sym}
+use Rattle.topology.specs.Shapes.{parts_of}
+use Rattle.run_history.specs.Cases.{CaseShape}
 use Rattle.world.specs.drains.DrainTurns.{IsUnderWay}
 use Rattle.world.specs.WorldDrains.{HasDrain}
 use Rattle.world.specs.scripts.WorldStates.{WorldState}
-use Rattle.world.proofs.StartedWorlds.{drain-on, drained-world, draining-world, ok-left, turned-case}
+use Rattle.world.proofs.StartedWorlds.{drain-on, drained-world, draining-world, idle-drain, ok-left, turned-case}
 use Rattle.world.proofs.scripts.WorldSteps.{work-moved}
 use Rattle.world.proofs.scripts.world.World.drain_turn.Goals as goal
 
@@ -22,11 +24,13 @@ invariant_of-self g c =
       relays = c.self.inside.relays.items;
       routes = c.self.inside.routes;
     } in
-    let has : HasDrain state c.args.drain.now = subst (λ (s : WorldState). HasDrain s c.args.drain.now) (sym c.self.view_is) c.requires.drain in (
-      draining-world c.drain_turn.new.book state has.idle has.none,
-      work-moved state.book.case c.drain_turn.new.book.case
-          (turned-case c.drain_turn.result c.args.drain.now.from state.book c.drain_turn.new.book c.drain_turn.ensures.drained
-          c.drain_turn.ensures.failed) c.self.invariant.1,
+    let has : HasDrain state c.args.drain.now = subst (λ (s : WorldState). HasDrain s c.args.drain.now) (sym c.self.view_is) c.requires.drain in
+    let same : c.drain_turn.new.book.case ≡ state.book.case =
+    turned-case c.drain_turn.result c.args.drain.now.from state.book c.drain_turn.new.book c.drain_turn.ensures.drained
+    c.drain_turn.ensures.failed in (
+      draining-world c.drain_turn.new.book state (idle-drain state c.args.drain.now has)
+          (c.self.invariant.0.routed ∙ ap (λ (k : CaseShape). parts_of k.topology) (sym same)),
+      work-moved state.book.case c.drain_turn.new.book.case same c.self.invariant.1,
     )
 
 -- the drain of the world is under way
@@ -56,4 +60,4 @@ returns-clause-begun g c =
       routes = c.self.inside.routes;
     } in
     let has : HasDrain state c.args.drain.now = subst (λ (s : WorldState). HasDrain s c.args.drain.now) (sym c.self.view_is) c.requires.drain in
-    drained-world c.drain_turn.new.book state has.idle has.none
+    drained-world c.drain_turn.new.book state (idle-drain state c.args.drain.now has)

@@ -26,8 +26,11 @@ call_alone-requires-clause-fits g c =
 
 -- the step is one of the case
 pub call_alone-requires-clause-step : goal.call_alone-requires-clause-step
-call_alone-requires-clause-step g c =
-    subst (λ (s : WorldState). IsStep s.book.case.topology c.args.step.now) (sym c.self.view_is) c.requires.step
+call_alone-requires-clause-step g c = (
+  c.args.self.now.routes.weaks,
+  subst (λ (s : WorldState). IsStep s.book.case.topology c.args.self.now.routes.weaks c.args.step.now) (sym c.self.view_is)
+      c.requires.step,
+)
 
 -- and of the worker
 pub call_alone-requires-clause-alone : goal.call_alone-requires-clause-alone

@@ -5,7 +5,7 @@ use Rattle.world.proofs.scripts.world.World.step_once.Goals as goal
 -- the worker is one of sixteen
 pub step_alone-requires-clause-worker : goal.step_alone-requires-clause-worker
 step_alone-requires-clause-worker g c =
-    alone-few c.args.self.now.book.case.topology c.in-Some.worker c.args.step.now c.requires.step c.in-Some.ensures.alone
+    alone-few c.args.self.now.book.case.topology c.args.self.now.routes.weaks c.in-Some.worker c.args.step.now c.requires.step c.in-Some.ensures.alone
 
 -- a fault of a worker leaves the world
 pub returns-in-Some-clause-kept : goal.returns-in-Some-clause-kept

@@ -1,5 +1,5 @@
-use Rattle.std.proofs.Common.{◌≡◌, subst, sym, rules}
-use Rattle.std.specs.Prelude.{IfErr, IfOk, None, OnErr, Some, slice_get, slice_set, unwrap_or}
+use Rattle.std.proofs.Common.{◌≡◌, true, subst, sym, rules}
+use Rattle.std.specs.Prelude.{IfErr, IfOk, None, OnErr, Some, nat_lt, slice_get, slice_set, unwrap_or}
 use Rattle.list_lemmas.proofs.Told.{if-there}
 use Rattle.run_history.specs.Cases.{CaseShape}
 use Rattle.book.specs.OwnDesks.{own_view}
@@ -14,7 +14,7 @@ use Rattle.world.specs.scripts.WorkerCalls.{IsFullStep, answered_in_place}
 use Rattle.world.specs.scripts.WorldStates.{WorldState, world_of}
 use Rattle.world.proofs.Results.{err-then, ok-then}
 use Rattle.world.proofs.scripts.TakeLaws.{ready-of}
-use Rattle.world.proofs.scripts.TakeSteps.{found-sent, take-left, take-not, taken-at, taken-rested, taken-stands}
+use Rattle.world.proofs.scripts.TakeSteps.{found-sent, take-far, take-left, take-not, taken-at, taken-rested, taken-stands}
 use Rattle.world.proofs.scripts.WorkerLaws.{err-left}
 use Rattle.world.proofs.scripts.WorldSteps.{at-index, changed, fits-index, work-moved}
 use Rattle.world.specs.scripts.Worlds.{worker_of}
@@ -36,6 +36,22 @@ returns-in_default-clause-acted g c =
     let at : unwrap_or (slice_get state.flight c.args.message) None ≡ None = search rules in
     subst (λ (s : WorldState). HasActed (steps.Take c.args.worker c.args.message) s s outcomes.Nothing) c.self.view_is
     (if-there state.book.rows (λ told. take-not state.book.case state c.args.worker c.args.message at))
+
+-- it has relays to pass first
+pub returns-then-to_pass-gt0-clause-acted : goal.returns-then-to_pass-gt0-clause-acted
+returns-then-to_pass-gt0-clause-acted g c =
+    let state : WorldState = record {
+      book = c.self.inside.book;
+      nodes = c.self.inside.nodes.items;
+      flight = c.self.inside.flight.items;
+      left = c.self.inside.left.items;
+      relays = c.self.inside.relays.items;
+      routes = c.self.inside.routes;
+    } in
+    let at : unwrap_or (slice_get state.flight c.args.message) None ≡ Some c.in-Some.found.now = search rules in
+    let far : nat_lt 0 (unwrap_or (slice_get state.left c.args.message) 0) ≡ true = search rules in
+    subst (λ (s : WorldState). HasActed (steps.Take c.args.worker c.args.message) s s outcomes.Nothing) c.self.view_is
+    (if-there state.book.rows (λ told. take-far state.book.case state c.args.worker c.args.message c.in-Some.found.now at far))
 
 -- the message goes to a row that may be there
 pub answered_in_place-requires-clause-addressed : goal.answered_in_place-requires-clause-addressed
@@ -79,11 +95,12 @@ returns-in-Some-answered_in_place-clause-acted g c =
     } in
     let at : unwrap_or (slice_get state.flight c.args.message) None ≡ Some c.in-Some.found.now = search rules in
     let here = at-index state c.args.worker c.index-here.result.now c.self.invariant.0 c.requires.worker c.index-here.ensures in
+    let passed : unwrap_or (slice_get state.left c.args.message) 0 ≡ 0 = search rules in
     let left : answered_in_place c.case-case.result.now.topology (worker_at c.index-here.result.now) (outgoing_of c.in-Some.found.now)
     ≡ Some c.in-Some-answered_in_place.outcome = search rules in
     subst (λ (s : WorldState). HasActed (steps.Take c.args.worker c.args.message) s s c.in-Some-answered_in_place.outcome) c.self.view_is
     (if-there state.book.rows (λ told. take-left state.book.case state c.args.worker c.args.message c.index-here.result.now
-    c.in-Some.found.now c.in-Some-answered_in_place.outcome here at
+    c.in-Some.found.now c.in-Some-answered_in_place.outcome here at passed
     (subst (λ (k : CaseShape). answered_in_place k.topology (worker_at c.index-here.result.now) (outgoing_of c.in-Some.found.now)
     ≡ Some c.in-Some-answered_in_place.outcome) c.case-case.ensures.case left)))
 
@@ -127,7 +144,7 @@ invariant_of-self g c =
     let was = c.index_mut-node.result.now in
     let here = at-index state c.args.worker was c.self.invariant.0 c.requires.worker c.index_mut-node.ensures.value in
     let called = c.receive.ensures.called in (
-      subst (λ f. IsWorld (record {
+      subst (λ f. IsWorld (record state {
         book = c.receive.new.book;
         nodes = slice_set state.nodes c.args.worker c.receive.new.node;
         flight = f;
@@ -150,9 +167,10 @@ returns-clause-acted g c =
     let was = c.index_mut-node.result.now in
     let here = at-index state c.args.worker was c.self.invariant.0 c.requires.worker c.index_mut-node.ensures.value in
     let new = changed state c.receive.new.book c.args.worker c.receive.new.node (slice_set state.flight c.args.message None) in
+    let passed : unwrap_or (slice_get state.left c.args.message) 0 ≡ 0 = search rules in
     let acted : IfOk c.receive.result (HasActed (steps.Take c.args.worker c.args.message) state new) =
     ok-then c.receive.result (λ outcome takes. taken-at state c.receive.new.book c.args.worker c.args.message was c.receive.new.node
-    c.take_out-taken.result outcome c.self.invariant.0 here c.take_out-taken.ensures.taken takes) c.receive.ensures.acted in
+    c.take_out-taken.result outcome c.self.invariant.0 here c.take_out-taken.ensures.taken passed takes) c.receive.ensures.acted in
     subst (λ f. IfOk c.receive.result (HasActed (steps.Take c.args.worker c.args.message) c.args.self.now (record new { flight = f })))
     (sym c.take_out-taken.ensures.gone)
     (subst (λ (s : WorldState). IfOk c.receive.result (HasActed (steps.Take c.args.worker c.args.message) s new)) c.self.view_is acted)
@@ -218,7 +236,8 @@ returns-clause-full g c =
     } in
     let was = c.index_mut-node.result.now in
     let here = at-index state c.args.worker was c.self.invariant.0 c.requires.worker c.index_mut-node.ensures.value in
+    let passed : unwrap_or (slice_get state.left c.args.message) 0 ≡ 0 = search rules in
     let full : IfErr c.receive.result (IsFullStep (steps.Take c.args.worker c.args.message) state) =
     err-then c.receive.result (λ why takes. taken-full state c.args.worker c.args.message was c.take_out-taken.result why
-    c.self.invariant.0 here c.take_out-taken.ensures.taken takes) c.receive.ensures.full in
+    c.self.invariant.0 here c.take_out-taken.ensures.taken passed takes) c.receive.ensures.full in
     subst (λ (s : WorldState). IfErr c.receive.result (IsFullStep (steps.Take c.args.worker c.args.message) s)) c.self.view_is full
