@@ -11,7 +11,6 @@ use Rattle.world.specs.scripts.WorldStates.{IsFolding}
 use Rattle.task_runs.specs.declared.status.Status.{Status}
 use Rattle.task_runs.specs.declared.task.Before.{Before}
 use Rattle.task_runs.specs.declared.task.Task.{Task}
-use Rattle.task_runs.specs.declared.task.Wanted.{Wanted}
 use Rattle.task_runs.specs.Tasks.{wanted_of}
 use Rattle.millwheel_cli.specs.Limits.{topology_limit, lines_limit}
 use Rattle.millwheel_cli.specs.Files.{HoldsSources, IsContent, fed_of, topology_taken}

@@ -9,7 +9,7 @@ ghost use Rattle.millwheel_cli.specs.Tasks.{HoldsBefore, IsInputsTask, IsLoadTas
 ghost use Rattle.millwheel_cli.specs.Reasons.{ShelfSeen, IsRefused, IsRefusedFirst, IsCallRefused, IsPlanRefused, IsTopologyRefused, load_taken};
 ghost use Rattle.millwheel_cli.specs.Inside.{HoldsLeft, UnlessWant};
 
-use crate::form::{Bare, bare_case, no_actions, no_steps};
+use crate::form::{Bare, bare_case, no_actions, no_steps, with_sources};
 use crate::load::load_case;
 use crate::reading::{read_rounds, read_sources, read_steps, read_topology};
 use crate::refusal::Refusal;
@@ -17,9 +17,9 @@ use command_line::{Call, Inputs};
 use injector::ItemsList;
 use mw_ports::Shelf;
 use mw_types::{Name, NoMemory};
-use run_history::Case;
 use std::alloc::Global;
 use task_runs::{Before, Task, Wanted, wanted_of};
+use topology::Folded;
 
 /// Reads the files that a call names, one after the other, up to the first that is refused.
 pub fn read_task<S: Shelf>(alloc: Global, shelf: &mut S, call: &Call) -> Result<Task, Refusal>
@@ -214,13 +214,25 @@ fn task_of(
     ensures wanted { IfOk result (λ task. task.wanted ≡ wanted) }
 {
     let Bare { case, routes } = bare;
-    let case = Case::of(alloc, case.topology, sources)?;
-    Ok(Task {
+    let topology = case.topology;
+    let bare = with_sources(alloc, Folded { topology, routes }, sources)?;
+    Ok(task_over(bare, before, wanted))
+}
+
+// The task of a case, of what comes before its drain, and of what is to be written.
+fn task_over(bare: Bare, before: Before, wanted: Wanted) -> Task
+    ensures case { result.case ≡ bare.case }
+    ensures routes { result.routes ≡ bare.routes }
+    ensures before { result.before ≡ before }
+    ensures wanted { result.wanted ≡ wanted }
+{
+    let Bare { case, routes } = bare;
+    Task {
         case,
         routes,
         before,
         wanted,
-    })
+    }
 }
 
 // How many event files these are. More than a `u32` counts are refused as a lack of memory, which
@@ -240,13 +252,12 @@ fn load_task(alloc: Global, seed: u32, lines: u32) -> Result<Task, Refusal>
     ensures folding { IfOk result (λ task. IsFolding task.case.topology task.routes) }
     ensures refused { IfErr result (UnlessWant (λ status. load_taken seed lines ≡ Err status)) }
 {
-    let (case, routes) = load_case(alloc, seed, lines)?;
-    let before = no_steps(alloc, &case)?;
-    let wanted = Wanted::SummaryAlone;
-    Ok(Task {
-        case,
-        routes,
-        before,
-        wanted,
-    })
+    let bare = load_case(alloc, seed, lines)?;
+    match no_steps(alloc, &bare.case) {
+        Ok(before) => Ok(task_over(bare, before, Wanted::SummaryAlone)),
+        Err(NoMemory) => {
+            drop(bare);
+            Err(Refusal::NoMemory)
+        }
+    }
 }

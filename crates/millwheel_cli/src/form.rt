@@ -47,11 +47,10 @@ fn stated_by(alloc: Global, count: u32, bytes: &[u8]) -> Result<Topology, Refusa
     Ok(topology)
 }
 
-/// What is left of a topology without its weak computations, before any line is read: a plan speaks of
-/// that alone.
+/// What is left of a topology without its weak computations. A plan speaks of that alone, before any line is read.
 #[derive(Drop)]
 pub struct Bare {
-    /// The case of what is left, whose injectors have no line.
+    /// The case of what is left.
     pub case: Case,
     /// The ways through the weak computations.
     pub routes: Routes,
@@ -62,10 +61,30 @@ pub fn bare_case(alloc: Global, folded: Folded) -> Result<Bare, NoMemory>
     ensures case { IfOk result (λ bare. bare.case.topology ≡ folded.topology) }
     ensures routes { IfOk result (λ bare. bare.routes ≡ folded.routes) }
 {
+    match no_lines(alloc, folded.topology.injectors()) {
+        Ok(sources) => with_sources(alloc, folded, sources),
+        Err(NoMemory) => {
+            drop(folded);
+            Err(NoMemory)
+        }
+    }
+}
+
+/// What is left of a topology, whose injectors have these lines.
+pub fn with_sources(alloc: Global, folded: Folded, sources: ItemsList) -> Result<Bare, NoMemory>
+    requires { length sources ≡ injectors_of folded.topology }
+    ensures case { IfOk result (λ bare.
+        bare.case ≡ record { topology = folded.topology; sources = sources }) }
+    ensures routes { IfOk result (λ bare. bare.routes ≡ folded.routes) }
+{
     let Folded { topology, routes } = folded;
-    let sources = no_lines(alloc, topology.injectors())?;
-    let case = Case::of(alloc, topology, sources)?;
-    Ok(Bare { case, routes })
+    match Case::of(alloc, topology, sources) {
+        Ok(case) => Ok(Bare { case, routes }),
+        Err(NoMemory) => {
+            drop(routes);
+            Err(NoMemory)
+        }
+    }
 }
 
 // So many sources without a line.

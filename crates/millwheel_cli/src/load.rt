@@ -9,14 +9,13 @@ ghost use Rattle.millwheel_cli.specs.Tasks.{IsLoadCase};
 ghost use Rattle.millwheel_cli.specs.Reasons.{load_taken};
 ghost use Rattle.millwheel_cli.specs.Inside.{UnlessWant};
 
-use crate::form::{items_of, topology_of};
+use crate::form::{Bare, items_of, topology_of, with_sources};
 use crate::refusal::Refusal;
-use injector::Items;
+use injector::{Items, ItemsList};
 use mw_types::{Bytes, NoMemory, Seq};
-use run_history::Case;
 use std::alloc::Global;
 use text_lines::LINES_MAX;
-use topology::{Folded, Routes, Topology};
+use topology::Folded;
 
 // The topology of load: one injector, and a count over windows of 60, in three intervals.
 const TOPOLOGY: &str =
@@ -27,15 +26,19 @@ const DRAWN: u32 = 65537;
 
 /// The case of load, by a seed and with so many lines: what solo makes of its topology and of one file
 /// with these lines, and the ways through the weak computations of that topology, which has none.
-pub fn load_case(alloc: Global, seed: u32, lines: u32) -> Result<(Case, Routes), Refusal>
-    ensures made { IfOk result (λ made. IsLoadCase seed lines made.0) }
-    ensures folding { IfOk result (λ made. IsFolding made.0.topology made.1) }
+pub fn load_case(alloc: Global, seed: u32, lines: u32) -> Result<Bare, Refusal>
+    ensures made { IfOk result (λ bare. IsLoadCase seed lines bare.case) }
+    ensures folding { IfOk result (λ bare. IsFolding bare.case.topology bare.routes) }
     ensures refused { IfErr result (UnlessWant (λ status. load_taken seed lines ≡ Err status)) }
 {
-    let Folded { topology, routes } = load_folded(alloc)?;
-    let items = load_items(alloc, seed, lines)?;
-    let case = one_source(alloc, topology, items)?;
-    Ok((case, routes))
+    let folded = load_folded(alloc)?;
+    match load_items(alloc, seed, lines) {
+        Ok(items) => Ok(one_source(alloc, folded, items)?),
+        Err(refusal) => {
+            drop(folded);
+            Err(refusal)
+        }
+    }
 }
 
 // What is left of the topology of load: all of it, since it has no weak computation.
@@ -72,14 +75,29 @@ fn load_items(alloc: Global, seed: u32, lines: u32) -> Result<Items, Refusal>
     items_of(alloc, 0, LINES_MAX, bytes)
 }
 
-// The case of a topology of one injector, which has these items.
-fn one_source(alloc: Global, topology: Topology, items: Items) -> Result<Case, NoMemory>
-    requires { injectors_of topology ≡ 1 }
-    ensures { IfOk result (λ case. case ≡ record { topology = topology; sources = items ∷ [] }) }
+// The case of what is left of a topology of one injector, which has these items.
+fn one_source(alloc: Global, folded: Folded, items: Items) -> Result<Bare, NoMemory>
+    requires { injectors_of folded.topology ≡ 1 }
+    ensures case { IfOk result (λ bare.
+        bare.case ≡ record { topology = folded.topology; sources = items ∷ [] }) }
+    ensures routes { IfOk result (λ bare. bare.routes ≡ folded.routes) }
+{
+    match one_list(alloc, items) {
+        Ok(sources) => with_sources(alloc, folded, sources),
+        Err(NoMemory) => {
+            drop(folded);
+            Err(NoMemory)
+        }
+    }
+}
+
+// These items, as those of one injector.
+fn one_list(alloc: Global, items: Items) -> Result<ItemsList, NoMemory>
+    ensures { IfOk result (λ sources. sources ≡ items ∷ []) }
 {
     let mut all = Seq::new(alloc);
     all.push(items)?;
-    Case::of(alloc, topology, all)
+    Ok(all)
 }
 
 /// The lines of the mode `load`: so many record lines of an event file, which the seed decides, with a

@@ -15,7 +15,8 @@ use Rattle.world.specs.drains.Drains.{IsDraining, HasEnded}
 use Rattle.world.specs.Replays.{GoesOn, IsReplayed, IsWholeReplay}
 
 -- a script that stopped on its way has written a beginning of what it writes
-pub script_stopped : (routes : RoutesView) (case : CaseShape) (found : Option Rows) (world : World) (steps : List Step) (history : List Entry)
+pub script_stopped : (routes : RoutesView) (case : CaseShape) (found : Option Rows) (world : World) (steps : List Step)
+    (history : List Entry)
     → world ≡ empty_world routes case.topology → IfSome found (λ _. Begins history (world_after case world steps).history)
     → IfSome found (λ _. IsReplayed routes case steps history)
 script_stopped routes case None world steps history same is = tt
@@ -73,7 +74,8 @@ pub unended_behind : (routes : RoutesView) (case other : CaseShape) (old found :
     → IfSome found (λ _. HasEnded other (length front) history → ⊥)
     → IfSome old (λ _. IsWholeReplay routes case steps history → ⊥)
 unended_behind routes case other None found world after steps front history same tells begun done at more = tt
-unended_behind routes case other (Some rows) None world after steps front history same tells begun done at more = absurd (true≢false (sym tells))
+unended_behind routes case other (Some rows) None world after steps front history same tells begun done at more =
+    absurd (true≢false (sym tells))
 unended_behind routes case other (Some rows) (Some held) world after steps front history same tells begun done at more =
     let written : front ≡ scripted_history routes case steps =
     sym at ∙ ap (λ (w : World). w.history) done ∙ ap (λ (w : World). (world_after case w steps).history) begun in
@@ -81,7 +83,8 @@ unended_behind routes case other (Some rows) (Some held) world after steps front
     (subst (λ (f : List Entry). HasEnded case (length f) history) (sym written) whole.drained.ended))
 
 -- a script that stopped on its way has not written the whole: a drain behind it has intervals to claim
-pub script_unended : (routes : RoutesView) (case : CaseShape) (found : Option Rows) (world : World) (steps : List Step) (history : List Entry)
+pub script_unended : (routes : RoutesView) (case : CaseShape) (found : Option Rows) (world : World) (steps : List Step)
+    (history : List Entry)
     → IsTopology case.topology → world ≡ empty_world routes case.topology
     → IfSome found (λ _. Begins history (world_after case world steps).history)
     → IfSome found (λ _. IsWholeReplay routes case steps history → ⊥)
@@ -100,6 +103,7 @@ script_unended routes case (Some rows) world steps history rules same is = λ wh
 
 -- what goes on from a script is a replay of it
 pub replayed_of : (routes : RoutesView) (case : CaseShape) (found : Option Rows) (steps : List Step) (history : List Entry)
-    → IfSome found (λ _. GoesOn case (scripted_history routes case steps) history) → IfSome found (λ _. IsReplayed routes case steps history)
+    → IfSome found (λ _. GoesOn case (scripted_history routes case steps) history)
+    → IfSome found (λ _. IsReplayed routes case steps history)
 replayed_of routes case None steps history is = tt
 replayed_of routes case (Some rows) steps history is = inr is

@@ -93,7 +93,8 @@ pub begins_through : (one two three : List Entry) → Begins one two → Begins 
 begins_through one two three a b = (a.0 ++ b.0, sym (append_assoc one a.0 b.0) ∙ ap (λ l. l ++ b.0) a.1 ∙ b.1)
 
 -- what rounds have left that a fault ended goes as rounds do
-pub rounds_stopped : (routes : RoutesView) (case : CaseShape) (before : Before) (told : Option Rows) (fault : Option NodeFault) (history : List Entry)
+pub rounds_stopped : (routes : RoutesView) (case : CaseShape) (before : Before) (told : Option Rows) (fault : Option NodeFault)
+    (history : List Entry)
     → IsDraining case (length history) history → AreRoundsOf case before told fault history → GoesAs routes case before history
 rounds_stopped routes case (Steps steps) told fault history draining is = absurd is
 rounds_stopped routes case (Rounds workers rounds actions) told fault history draining is = record {
@@ -148,7 +149,8 @@ short_rounds case workers rounds actions front history room goes more mine law =
 }
 
 -- so it is of what rounds left that a fault ended, since a drain has intervals to claim
-pub rounds_full : (routes : RoutesView) (case : CaseShape) (before : Before) (told : Option Rows) (fault : Option NodeFault) (history : List Entry)
+pub rounds_full : (routes : RoutesView) (case : CaseShape) (before : Before) (told : Option Rows) (fault : Option NodeFault)
+    (history : List Entry)
     → IsTopology case.topology → IsDraining case (length history) history → IsLegalAndFenced case history
     → ((c : CaseShape) (f one all : List Entry) → IsDraining c (length f) (f ++ one) → IsLegalAndFenced c (f ++ one)
     → IsDrained c (length f) (f ++ all) → IsLegalAndFenced c (f ++ all) → Begins (f ++ one) (f ++ all))

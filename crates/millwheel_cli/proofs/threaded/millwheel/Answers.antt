@@ -4,7 +4,8 @@ use Rattle.millwheel_cli.proofs.threaded.millwheel.Goals as goal
 
 pub returns-in-Ok-clause-ok : goal.returns-in-Ok-clause-ok
 returns-in-Ok-clause-ok g c is =
-    ok_of_left _ _ _ _ (left_of_call _ _ c.in-Ok.command _ _ c.weak_passes_are_seen_through.ensures.text c.in-Ok.ensures.command c.called-done.ensures.ended) is
+    ok_of_left _ _ _ _ (left_of_call _ _ c.in-Ok.command _ _ c.weak_passes_are_seen_through.ensures.text
+    c.in-Ok.ensures.command c.called-done.ensures.ended) is
 
 pub returns-in-Ok-clause-usage : goal.returns-in-Ok-clause-usage
 returns-in-Ok-clause-usage g c is =

@@ -4,6 +4,7 @@ ghost use Rattle.topology.specs.Shapes.{injectors_of};
 ghost use Rattle.node.specs.Works.{IsWorkOf};
 ghost use Rattle.computations.specs.Parts.{HasState, part_record, part_timer};
 ghost use Rattle.plans.specs.Steps.{IsStep};
+ghost use Rattle.world.specs.scripts.WorldStates.{IsFolding};
 
 use super::overtaken::sides;
 use crate::tests::events::EVENTS;
@@ -18,7 +19,7 @@ use row_keeper::{Keeper, MemKeeper};
 use run_history::{Case, EntryRef, History};
 use std::alloc::Global;
 use std::process::Abort;
-use topology::{Folded, Topology, read};
+use topology::{Folded, Routes, Topology, read};
 use world::{Schedule, Step, World, read_schedule};
 
 // The topology of the first example, which has one injector.
@@ -46,10 +47,15 @@ fn items(rt: &impl Abort, alloc: Global) -> ItemsList
     items
 }
 
-// Its case.
-fn case(rt: &impl Abort, alloc: Global) -> Case {
+// Its case, and the ways through its weak passes, of which it has none.
+fn case(rt: &impl Abort, alloc: Global) -> (Case, Routes)
+    ensures { IsFolding result.0.topology result.1 }
+{
     let items = items(rt, alloc);
-    made(rt, Case::of(alloc, topology(rt, alloc), items))
+    let file = topology(rt, alloc);
+    let Folded { topology, routes } = made(rt, file.fold(alloc));
+    drop(file);
+    (made(rt, Case::of(alloc, topology, items)), routes)
 }
 
 // The computations of a case.
@@ -68,20 +74,21 @@ fn world<'a>(
     rt: &impl Abort,
     alloc: Global,
     case: &'a Case,
+    routes: Routes,
     keeper: MemKeeper,
-) -> World<'a, MemKeeper, Kinds> {
+) -> World<'a, MemKeeper, Kinds>
+    requires { IsFolding case.now.topology routes }
+{
     let work = made(rt, work(alloc, case));
     let book = made(rt, Book::start(alloc, case, keeper, 1 << 32));
-    let Folded { topology, routes } = made(rt, case.topology.fold(alloc));
-    drop(topology);
     made(rt, World::start(alloc, book, work, routes))
 }
 
 // The one step of a line.
-fn step(rt: &impl Abort, alloc: Global, case: &Case, line: &str) -> Step
-    ensures { IsStep case.now.topology result }
+fn step(rt: &impl Abort, alloc: Global, case: &Case, weaks: u32, line: &str) -> Step
+    ensures { IsStep case.now.topology weaks result }
 {
-    let schedule = schedule(rt, alloc, case, line);
+    let schedule = schedule(rt, alloc, case, weaks, line);
     let step = match schedule.steps().first() {
         Some(step) => *step,
         None => rt.panic("no step"),
@@ -91,14 +98,14 @@ fn step(rt: &impl Abort, alloc: Global, case: &Case, line: &str) -> Step
 }
 
 // The schedule of a text.
-fn schedule(rt: &impl Abort, alloc: Global, case: &Case, text: &str) -> Schedule
-    ensures { All (IsStep case.now.topology) result }
+fn schedule(rt: &impl Abort, alloc: Global, case: &Case, weaks: u32, text: &str) -> Schedule
+    ensures { All (IsStep case.now.topology weaks) result }
 {
     let bytes = text.as_bytes();
     if bytes.len() > 1 << 20 {
         rt.panic("too long")
     }
-    made(rt, read_schedule(alloc, bytes, case, 0))
+    made(rt, read_schedule(alloc, bytes, case, weaks))
 }
 
 // What the step of a line answers. No other function does a step, since each that does carries what its clauses tell.
@@ -109,7 +116,7 @@ fn answer(
     line: &str,
 ) -> Result<Outcome, NodeFault> {
     let case = world.book().case();
-    let step = step(rt, alloc, case, line);
+    let step = step(rt, alloc, case, world.weaks(), line);
     world.step(alloc, &step)
 }
 
@@ -203,8 +210,8 @@ fn do_steps(
 
 /// Does each step of a script over a new world of the first example and this keeper.
 pub(super) fn do_all(rt: &impl Abort, alloc: Global, keeper: MemKeeper, name: &str, script: &str) {
-    let case = case(rt, alloc);
-    let mut world = world(rt, alloc, &case, keeper);
+    let (case, routes) = case(rt, alloc);
+    let mut world = world(rt, alloc, &case, routes, keeper);
     do_steps(rt, alloc, &mut world, name, script);
     drop(world);
     drop(case);

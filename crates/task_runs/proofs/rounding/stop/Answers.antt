@@ -16,7 +16,8 @@ returns-clause-left g c text began empty =
     (rounds_stopped task.routes task.case task.before book.rows (Some c.args.fault) book.history draining c.requires.rounds) in
     let run = run_of_history task began book (text, text) empty c.requires.case lawful goes in
     subst (RunLeaves task _) (sym c.status_of_drain.ensures)
-    (stopped task _ c.args.fault run (unwritten task.wanted task.case.topology book.history (text, text) c.requires.late refl) (λ e. c.requires.full e ∙ c.requires.limit)
+    (stopped task _ c.args.fault run (unwritten task.wanted task.case.topology book.history (text, text) c.requires.late refl)
+    (λ e. c.requires.full e ∙ c.requires.limit)
     (λ e. stopped_short task book (Some c.args.fault) c.requires.case lawful
     (subst IsRunnable c.requires.case lawful.runnable).topology draining c.drains_begin_the_drained_history.ensures.begins
     c.requires.rounds)

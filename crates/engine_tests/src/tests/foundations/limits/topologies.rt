@@ -23,6 +23,14 @@ static SIZES: [(Source, Option<TopologyRefusal>); 13] = [
     ),
 ];
 
+// Without its weak passes a topology has at most 64 readings. Of 31 weak passes it would have 2^31.
+static DOUBLED: [(Source, Option<TopologyRefusal>); 4] = [
+    (Source::Doubled(6, 0), None),
+    (Source::Doubled(6, 1), Some(TopologyRefusal::BadWeak)),
+    (Source::Doubled(7, 0), Some(TopologyRefusal::BadWeak)),
+    (Source::Doubled(31, 0), Some(TopologyRefusal::BadWeak)),
+];
+
 // A computation of a kind that has no numbers.
 const PASS: &str = r#""kind":"pass""#;
 
@@ -100,5 +108,6 @@ static LONG: [(Source, Option<TopologyRefusal>); 20] = [
 #[test]
 fn a_topology_goes_up_to_its_numbers(rt: HostRuntime) {
     all_hold(&rt, rt.alloc(), &SIZES);
+    all_hold(&rt, rt.alloc(), &DOUBLED);
     all_hold(&rt, rt.alloc(), &LONG);
 }

@@ -21,6 +21,9 @@ pub(crate) enum Source {
     /// A file with so many injectors and counts, of which each reads the first stream so often, and the first has so
     /// many cuts.
     Sized([u32; 4]),
+    /// A file with so many weak passes, of which each reads the one above it twice, and a count of the last one and,
+    /// so often, of the injector.
+    Doubled(u32, u32),
     /// A file whose computation has these members beside others, and so many bytes after the first of its name, of its
     /// stream's name and of its cut.
     Long(&'static str, [u32; 3]),
@@ -121,6 +124,57 @@ fn push_sized(rt: &impl Abort, alloc: Global, text: &mut String, numbers: &[u32;
     push_parts(rt, text, &[("]}", 1)]);
 }
 
+// What a weak pass has before its readings.
+const WEAK: Numbered = &[
+    r#"{"name":"w"#,
+    "",
+    r#"","kind":"pass","weak":true,"stream":"t"#,
+    "",
+    r#"","reads":["#,
+];
+
+// A reading of a weak pass.
+const READ_WEAK: Numbered = &[r#"{"stream":"t"#, "", r#"","by":"key"}"#];
+
+// Appends a reading of the weak pass above the one of this number, or of the injector above the first.
+fn push_above(rt: &impl Abort, alloc: Global, text: &mut String, number: u32) {
+    match number.checked_sub(1) {
+        Some(above) => {
+            for part in READ_WEAK {
+                if part.is_empty() {
+                    push_number(rt, alloc, text, above.saturating_add(100));
+                } else {
+                    made(rt, text.push_str(part));
+                }
+            }
+        }
+        None => push_all(rt, alloc, text, READ, 0, 1),
+    }
+}
+
+// Appends a weak pass of this number.
+fn push_weak(rt: &impl Abort, alloc: Global, text: &mut String, number: u32) {
+    push_all(rt, alloc, text, WEAK, number, number.saturating_add(1));
+    push_above(rt, alloc, text, number);
+    push_parts(rt, text, &[(",", 1)]);
+    push_above(rt, alloc, text, number);
+    push_parts(rt, text, &[("]}", 1)]);
+}
+
+// Appends a file with so many weak passes, and so many readings of the injector beside that of the last one.
+fn push_doubled(rt: &impl Abort, alloc: Global, text: &mut String, weaks: u32, more: u32) {
+    push_parts(rt, text, &[(r#"{"injectors":["#, 1)]);
+    push_all(rt, alloc, text, INJECTOR, 0, 1);
+    push_parts(rt, text, &[(r#"],"computations":["#, 1)]);
+    for at in 0..weaks {
+        push_weak(rt, alloc, text, at);
+    }
+    push_all(rt, alloc, text, COUNT, weaks, weaks.saturating_add(1));
+    push_above(rt, alloc, text, weaks);
+    push_all(rt, alloc, text, READ, 1, more.saturating_add(1));
+    push_parts(rt, text, &[("]}]}", 1)]);
+}
+
 impl Holds for (Source, Option<TopologyRefusal>) {
     // It is read, or refused so. The text is let go before that is looked at.
     fn holds<R: Abort>(&self, rt: &R, alloc: Global) -> bool {
@@ -135,6 +189,11 @@ impl Holds for (Source, Option<TopologyRefusal>) {
             Source::Sized(numbers) => {
                 let mut text = String::new(alloc);
                 push_sized(rt, alloc, &mut text, numbers);
+                text
+            }
+            Source::Doubled(weaks, more) => {
+                let mut text = String::new(alloc);
+                push_doubled(rt, alloc, &mut text, *weaks, *more);
                 text
             }
             Source::Long(members, lengths) => long(rt, alloc, members, lengths),
