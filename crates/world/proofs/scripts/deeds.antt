@@ -1,8 +1,6 @@
 pub mod Acting
 pub mod Left
 pub mod Held
-pub mod Claims
-pub mod Crashes
 pub mod Injects
 pub mod Writes
 pub mod Takes

@@ -1,1 +1,0 @@
--- What a node answers to a claim, as the scripted world does.

@@ -1,1 +1,0 @@
--- A node that forgets all, as the scripted world does.
