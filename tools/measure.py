@@ -18,7 +18,8 @@ at most. Another build comes from an older commit:
 prints processor and wall seconds and memory of `PROGRAM run` with 1, 2, 4 and 16 workers beside `PROGRAM solo`, and the
 processor seconds as multiples of `solo`'s: over one file, uncut, cut, and cut into as many intervals as there may be, and over
 days of three web servers with unequal shares and of sixteen with equal ones, of whose lines each is read twice. A round
-injects 16 lines of each file; what is left of the longest is left to the drain.
+injects 16 lines of each file; what is left of the longest is left to the drain. The runs take turns, seven each, so that
+what else the machine does meets all alike.
 """
 import hashlib
 import json
@@ -48,6 +49,7 @@ INPUTS = [
 
 # How many workers a run has, and over which inputs, with how many rounds, that is measured.
 CREW = (1, 2, 4, 16)
+TURNS = 7
 ROUNDED = [
     ("one file, 16,000 lines, 26 keys, 2 intervals", 1000, lambda room: one_file(room, [])),
     ("one file, 16,000 lines, 26 keys, 4 intervals", 1000, lambda room: one_file(room, ["i", "r"])),
@@ -156,20 +158,20 @@ def day(room, shares, lines, seed, parted=()):
 def rounds(program, name, count, made):
     """Prints what rounds cost beside one thread over an input, and whether all wrote the same text."""
     modes = ["solo"] + ["run --workers=%d --rounds=%d" % (workers, count) for workers in CREW]
-    texts, least = set(), None
+    runs, texts = {mode: [] for mode in modes}, set()
     print(name)
     with tempfile.TemporaryDirectory() as room:
         words = made(room)
-        for mode in modes:
-            seen = []
-            for _ in range(RUNS):
+        for _ in range(TURNS):
+            for mode, seen in runs.items():
                 begun = time.time()
                 seen.append((*run(program, mode, *words), time.time() - begun))
-            texts.update(one[3] for one in seen)
-            seconds, memory, status, _, wall = min(seen)
-            least = least or seconds
-            told = (mode, seconds, seconds / least, wall, memory, status)
-            print("  %-32s %6.2f s, %5.2f of solo's, %6.2f s by the clock, %4.0f MiB, status %d" % told)
+    least = min(runs["solo"])[0]
+    for mode, seen in runs.items():
+        texts.update(one[3] for one in seen)
+        seconds, memory, status = min(seen)[:3]
+        told = (mode, seconds, seconds / least, min(one[4] for one in seen), memory, status)
+        print("  %-32s %6.3f s, %5.2f of solo's, %6.3f s by the clock, %4.0f MiB, status %d" % told)
     print("  the same text" if len(texts) == 1 else "  TEXTS DIFFER", flush=True)
 
 

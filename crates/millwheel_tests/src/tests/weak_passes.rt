@@ -35,6 +35,7 @@ const FORGOTTEN: &str = "claim 0 0
 claim 0 1
 inject 0 0
 send 0
+take 0 0
 relay 0 0
 take 0 1
 write 0
