@@ -2,6 +2,7 @@
 # Shows a run of the small example, with the word `relay` of the same behind a weak pass, or with the word `requests` of
 # the event lines of two web logs (docs/EXAMPLE.md):
 #     tools/run-example.sh [--fast | --hard] [relay | requests] [--history] [--plan old_owner.plan]
+#     tools/run-example.sh [--fast | --hard] relay [--history] --plan lost_relay.plan
 #     tools/run-example.sh [--fast | --hard] [relay | requests] [--history] --workers=2 --rounds=4 [--plan=rounds.plan]
 # The program is built first, once, without a proof, so this shows a run and proves nothing: tools/build.sh does.
 # tools/unproved-program.sh says what --fast and --hard are; without either the first run builds the fast one.

@@ -27,7 +27,7 @@ def computation(r: random.Random, number: int, streams: list[str]) -> dict:
 
 
 def topology(r: random.Random) -> tuple[dict, int]:
-    """A topology of which each pass that something reads is weak, and how many these are."""
+    """A topology of which most passes that something reads are weak, and how many these are."""
     streams, made = ["raw"], []
     for number in range(r.randint(2, 6)):
         made.append(computation(r, number, streams))
