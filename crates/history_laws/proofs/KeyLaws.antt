@@ -28,7 +28,8 @@ use Rattle.topology.specs.declared.subscription.By.{By}
 use Rattle.topology.specs.declared.subscription.By.TheVariants.{Key, Head, Tail}
 use Rattle.topology.specs.Shapes.{Shape, consumers_of, extracted, kind_of, or_whole}
 use Rattle.computations.specs.Handlers.{count_timer, effects_of_record, effects_of_timer, is_spike, spike_timer, total_due, window_due}
-use Rattle.row_parts.specs.Contents.{Contents, IsKey, fresh, same_id, found_delivery}
+use Rattle.row_parts.specs.Contents.{Contents, fresh, same_id, found_delivery}
+use Rattle.mw_types.specs.Bounds.{IsKey}
 use Rattle.run_history.specs.Cases.{CaseShape, fresh_of, record_of, source_of}
 use Rattle.run_history.specs.Finished.{handles}
 use Rattle.run_history.specs.Legal.{IsLegal, MayFollow}

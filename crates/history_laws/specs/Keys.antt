@@ -3,7 +3,7 @@ use Rattle.std.specs.Prelude.{All, IsSome}
 use Rattle.mw_types.specs.declared.delivery.Delivery.{Delivery}
 use Rattle.mw_types.specs.declared.identity.RowName.{RowName}
 use Rattle.injector.specs.Sources.{Source, SourceLine}
-use Rattle.row_parts.specs.Contents.{IsKey}
+use Rattle.mw_types.specs.Bounds.{IsKey}
 use Rattle.run_history.specs.Cases.{CaseShape}
 use Rattle.run_history.specs.Runs.{Run, row_in}
 

@@ -6,7 +6,8 @@ use Rattle.mw_types.specs.declared.identity.RecordId.{RecordId}
 use Rattle.mw_types.specs.declared.delivery.Emission.{Emission}
 use Rattle.topology.specs.Shapes.{Shape, stream_of}
 use Rattle.topology.specs.Rules.{is_name}
-use Rattle.row_parts.specs.Contents.{IsId, IsKey}
+use Rattle.row_parts.specs.Contents.{IsId}
+use Rattle.mw_types.specs.Bounds.{IsKey}
 use Rattle.run_history.specs.Texts.{as_line}
 use Rattle.run_history.specs.HistoryLines.{id_data}
 use Rattle.serde_json.specs.Data.{Data, object, member, no_members, string, number, unsigned}

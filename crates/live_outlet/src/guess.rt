@@ -3,7 +3,8 @@ ghost use Rattle.std.specs.Prelude.{◌≡◌, IfOk, IfSome, IsTrue, Some, codes
 ghost use Rattle.std.specs.Option.{option_map};
 ghost use Rattle.topology.specs.Rules.{is_name};
 ghost use Rattle.serde_json.specs.View.{view};
-ghost use Rattle.row_parts.specs.Contents.{IsId, IsKey};
+ghost use Rattle.row_parts.specs.Contents.{IsId};
+ghost use Rattle.mw_types.specs.Bounds.{IsKey};
 ghost use Rattle.live_outlet.specs.LiveLines.{IsLive};
 ghost use Rattle.live_outlet.specs.Guesses.{id_of, id_in, id_at, text_at, key_at, name_at, stamp_at, value_at, line_in, line_guessed};
 

@@ -2,7 +2,8 @@
 ghost use Rattle.std.specs.Prelude.{◌≡◌, ◌++◌, ◌∷◌, [], codes, IfOk, IsTrue, OnOk};
 ghost use Rattle.mw_types.specs.PrintedIds.{printed_id};
 ghost use Rattle.json.specs.Token.{key, string};
-ghost use Rattle.row_parts.specs.Contents.{IsId, IsKey};
+ghost use Rattle.row_parts.specs.Contents.{IsId};
+ghost use Rattle.mw_types.specs.Bounds.{IsKey};
 ghost use Rattle.topology.specs.Rules.{is_name};
 ghost use Rattle.run_history.specs.Printing.{tokens_of};
 ghost use Rattle.live_outlet.specs.LiveLines.{live_data, live_text, IsLive};

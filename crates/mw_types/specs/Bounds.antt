@@ -1,5 +1,6 @@
 -- What the numbers and lists of a state may be. Own.
-use Rattle.std.specs.Prelude.{List, length, map, All, ◌<◌, ◌≤◌, ◌^◌}
+use Rattle.std.specs.Prelude.{ℕ, List, length, map, All, ◌<◌, ◌≤◌, ◌^◌}
+use Rattle.std.specs.Str.{IsUtf8}
 use Rattle.std.specs.Ordering.{nat_cmp}
 use Rattle.std.specs.List.Sorted.{IsStrictlySortedBy}
 use Rattle.mw_types.specs.declared.TheConstants.{MAX_STAMP}
@@ -27,3 +28,8 @@ IsWithin (Injector cursor) = cursor < 2 ^ 32
 IsWithin (Count late windows) = (late ≤ MAX_STAMP) × AreWindows windows
 IsWithin (Spike late held known) = (late ≤ MAX_STAMP) × AreHeld held × (length known ≤ 64)
 IsWithin (Pass late) = late ≤ MAX_STAMP
+
+-- a key: at most 256 bytes of UTF-8
+pub record IsKey (key : List ℕ) : Type 0 where
+  pub short : length key ≤ 256
+  pub text : IsUtf8 key

@@ -15,7 +15,8 @@ use Rattle.mw_types.specs.declared.timer.Timer.{Timer}
 use Rattle.mw_types.specs.declared.identity.RecordId.{RecordId}
 use Rattle.mw_types.specs.Orders.{id_cmp}
 use Rattle.row_parts.specs.Changes.{grown, shrunk, without_ids}
-use Rattle.row_parts.specs.Contents.{ArePending, Contents, IsDelivery, IsId, IsKey, delivery_cmp, is_finished, same_id, set_again, with_id, with_timer}
+use Rattle.row_parts.specs.Contents.{ArePending, Contents, IsDelivery, IsId, delivery_cmp, is_finished, same_id, set_again, with_id, with_timer}
+use Rattle.mw_types.specs.Bounds.{IsKey}
 use Rattle.row_parts.specs.Orders.{timer_cmp-total}
 use Rattle.row_parts.specs.Places.{IsHit, timer_rank}
 use Rattle.row_parts.proofs.PlaceLemmas.{put_in-hit}

@@ -19,7 +19,8 @@ use Rattle.mw_types.specs.declared.identity.RecordId.{RecordId}
 use Rattle.mw_types.specs.declared.identity.RowName.{RowName}
 use Rattle.mw_types.specs.declared.record.Record.{Record}
 use Rattle.mw_types.specs.declared.delivery.Delivery.{Delivery}
-use Rattle.row_parts.specs.Contents.{IsId, IsKey, IsDelivery}
+use Rattle.row_parts.specs.Contents.{IsId, IsDelivery}
+use Rattle.mw_types.specs.Bounds.{IsKey}
 use Rattle.row_parts.specs.Spelling.{signed_spelling, flag_spelling, key_spelling, id_spelling, window_spelling, held_spelling, timer_spelling, name_spelling, record_spelling, delivery_spelling, DeliveryFits}
 use Rattle.row_parts.specs.Reading.{keep, number_at, signed_at, flag_at, key_at, id_at, window_at, held_at, timer_at, name_at, after_key_at, record_at, delivery_at, ◌>>=◌}
 use Rattle.row_parts.proofs.Codec.{IsBytes, IsBytes-drop, bind_some, bind_assoc, bind_same, keep_some, Reads, as_read, wide16, wide32, wide64, number_reads, nothing_at, nothing_reads, pair_at, pair_reads, made_reads, more}

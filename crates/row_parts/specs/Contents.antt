@@ -4,7 +4,6 @@ use Rattle.std.specs.Prelude.{ℕ, List, [], ◌∷◌, length, filter, find, Op
 use Rattle.std.specs.List.{list_any}
 use Rattle.std.specs.declared.cmp.Ordering.{Ordering}
 use Rattle.std.specs.Ordering.{match_ordering}
-use Rattle.std.specs.Str.{IsUtf8}
 use Rattle.std.specs.List.Sorted.{IsStrictlySortedBy}
 use Rattle.mw_types.specs.declared.TheConstants.{MAX_STAMP}
 use Rattle.mw_types.specs.declared.state.State.{State}
@@ -12,7 +11,7 @@ use Rattle.mw_types.specs.declared.state.State.TheVariants as states
 use Rattle.mw_types.specs.declared.timer.Timer.{Timer}
 use Rattle.mw_types.specs.declared.delivery.Delivery.{Delivery}
 use Rattle.mw_types.specs.declared.identity.RecordId.{RecordId}
-use Rattle.mw_types.specs.Bounds.{IsWithin}
+use Rattle.mw_types.specs.Bounds.{IsWithin, IsKey}
 use Rattle.mw_types.specs.Orders.{id_cmp, timer_cmp}
 
 -- a row's state, the timers that are set, what it produced and is not yet acknowledged, the ids that it
@@ -82,11 +81,6 @@ abbrev pub is_finished : RecordId → Contents → Bool
 is_finished id row = nat_lt id.commit row.floor || list_any (same_id id) row.seen
 
 -- ---- what a row may be
-
--- a key: at most 256 bytes of UTF-8
-pub record IsKey (key : List ℕ) : Type 0 where
-  pub short : length key ≤ 256
-  pub text : IsUtf8 key
 
 -- an id: the commit number is that of an entry, which makes at most 512 records
 pub record IsId (id : RecordId) : Type 0 where

@@ -4,7 +4,8 @@ ghost use Rattle.std.specs.List.{list_any};
 ghost use Rattle.std.specs.List.Sorted.{IsStrictlySortedBy};
 ghost use Rattle.std.specs.Option.{is_some};
 ghost use Rattle.std.specs.declared.cmp.Ordering.TheVariants.{Less};
-ghost use Rattle.row_parts.specs.Contents.{ArePending, IsId, IsKey, delivery_cmp, found_delivery, same_id, without_delivery};
+ghost use Rattle.row_parts.specs.Contents.{ArePending, IsId, delivery_cmp, found_delivery, same_id, without_delivery};
+ghost use Rattle.mw_types.specs.Bounds.{IsKey};
 
 use crate::places::{delivery_place, room, room_for};
 use mw_types::{Delivery, DeliveryList, Key, MAX_STAMP, NoMemory, RecordId};

@@ -5,7 +5,7 @@ use Rattle.list_lemmas.proofs.Lists.{some_same}
 use Rattle.mw_types.specs.declared.identity.RowName.{RowName}
 use Rattle.mw_types.specs.declared.entry.Entry.{Entry}
 use Rattle.mw_types.specs.declared.entry.Entry.TheVariants.{Claim, Inject, Handle, Fire, Ack, Purge}
-use Rattle.row_parts.specs.Contents.{IsKey}
+use Rattle.mw_types.specs.Bounds.{IsKey}
 use Rattle.live_outlet.specs.Guesses.{key_of}
 use Rattle.live_outlet.proofs.IdLaws.{print-own}
 use Rattle.run_history.specs.HistoryLines.{entry_data}

@@ -9,7 +9,8 @@ use Rattle.mw_types.specs.declared.timer.Timer.{Timer}
 use Rattle.mw_types.specs.declared.entry.Entry.{Entry}
 use Rattle.mw_types.specs.declared.entry.Entry.TheVariants.{Claim, Inject, Handle, Fire, Ack, Purge}
 use Rattle.mw_types.specs.Outcomes.{EffectsView, AreEffects}
-use Rattle.row_parts.specs.Contents.{IsId, IsKey}
+use Rattle.row_parts.specs.Contents.{IsId}
+use Rattle.mw_types.specs.Bounds.{IsKey}
 use Rattle.row_parts.specs.Spelling.{FitsBytes}
 use Rattle.trace_lines.specs.Lines.{text_of_entry}
 

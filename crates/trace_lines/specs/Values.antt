@@ -2,7 +2,7 @@
 use Rattle.std.specs.Prelude.{All, FitsSigned}
 use Rattle.std.specs.Int.{w64}
 use Rattle.injector.specs.Sources.{Source, SourceLine}
-use Rattle.row_parts.specs.Contents.{IsKey}
+use Rattle.mw_types.specs.Bounds.{IsKey}
 use Rattle.run_history.specs.Cases.{CaseShape}
 
 -- each line that an injector injects has a value of 64 bits

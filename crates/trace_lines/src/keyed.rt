@@ -1,7 +1,7 @@
 //! Which keys and values the lines of a case have.
 ghost use Rattle.std.specs.Prelude.{All, FitsSigned};
 ghost use Rattle.std.specs.Int.{w64};
-ghost use Rattle.row_parts.specs.Contents.{IsKey};
+ghost use Rattle.mw_types.specs.Bounds.{IsKey};
 ghost use Rattle.history_laws.specs.Keys.{AreKeyed};
 ghost use Rattle.trace_lines.specs.Values.{AreValued, HasKeyAndValue};
 
