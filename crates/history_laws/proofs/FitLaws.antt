@@ -19,7 +19,7 @@ use Rattle.mw_types.specs.declared.entry.Entry.TheVariants.{Claim, Inject, Handl
 use Rattle.mw_types.specs.Outcomes.{EffectsView}
 use Rattle.topology.specs.declared.subscription.Subscription.{Subscription}
 use Rattle.topology.specs.Shapes.{Shape, injectors_of, parts_of, kind_of}
-use Rattle.computations.specs.Handlers.{has_kind, fresh_state, unchanged, outcome_with_timer, outcome_with_record, one_more, window_end, counted, window_due, count_timer, due_time, held_with, total_due, is_spike, known_with, spike_timer, effects_of_record, effects_of_timer}
+use Rattle.computations.specs.Handlers.{has_kind, fresh_state, unchanged, outcome_with_timer, outcome_with_record, one_more, window_end, counted, window_due, count_timer, due_time, held_with, total_due, is_spike, known_with, spike_timer, effects_of, OfRecord, OfTimer}
 use Rattle.row_parts.specs.Contents.{Contents, same_id, cursor_in}
 use Rattle.run_history.specs.Cases.{CaseShape, is_injector, source_of, fresh_of}
 use Rattle.run_history.specs.Made.{row_written, late_cause, productions_of, deliveries_of, deliveries_made}
@@ -56,7 +56,7 @@ spike_timer-kind last times key late held known (Some due) =
 
 -- a record keeps the kind
 record-kind : (kind : Kind) (key : List ℕ) (state : State) (item : Record) → has_kind kind state ≡ true
-    → has_kind kind (effects_of_record kind key state item).state ≡ true
+    → has_kind kind (effects_of kind key state (OfRecord item)).state ≡ true
 record-kind (kinds.Count size) key (states.Count late windows) item of =
     elim item.late as (λ b. has_kind (kinds.Count size)
     (cond b (unchanged (states.Count (one_more late) windows))
@@ -80,7 +80,7 @@ record-kind kinds.Pass key (states.Spike late held known) item of = absurd cc
 
 -- and so does a timer
 timer-kind : (kind : Kind) (key : List ℕ) (state : State) (timer : Timer) → has_kind kind state ≡ true
-    → has_kind kind (effects_of_timer kind key state timer).state ≡ true
+    → has_kind kind (effects_of kind key state (OfTimer timer)).state ≡ true
 timer-kind (kinds.Count size) key (states.Count late windows) timer of = count_timer-kind size key late windows (window_due windows timer)
 timer-kind (kinds.Spike last times) key (states.Spike late held known) timer of = spike_timer-kind last times key late held known
     (total_due held timer)
@@ -142,7 +142,7 @@ changed-kind : (case : CaseShape) (run : Run) (entry : Entry) (sent : List Deliv
 changed-kind case run (Inject seq part line item) sent name may written of = advanced-kind case.topology name.part
     (row_of case.topology run name).state of
 changed-kind case run (Handle seq row id effects) sent name may written of =
-    let kind = was_some (λ (kind : Kind). effects_of_record kind row.key (row_of case.topology run row).state may.delivery.item)
+    let kind = was_some (λ (kind : Kind). effects_of kind row.key (row_of case.topology run row).state (OfRecord may.delivery.item))
     (kind_of case.topology row.part) effects may.does in
     let here : IsStateOf case.topology row.part (row_of case.topology run row).state = subst
     (λ (n : RowName). IsStateOf case.topology n.part (row_of case.topology run n).state) (sym (some_same row name written)) of in
@@ -152,7 +152,7 @@ changed-kind case run (Handle seq row id effects) sent name may written of =
     (record-kind kind.0 row.key (row_of case.topology run row).state may.delivery.item
     (of_kind case.topology row.part kind.0 (row_of case.topology run row).state kind.1 here))))
 changed-kind case run (Fire seq row timer mark effects) sent name may written of =
-    let kind = was_some (λ (kind : Kind). effects_of_timer kind row.key (row_of case.topology run row).state timer)
+    let kind = was_some (λ (kind : Kind). effects_of kind row.key (row_of case.topology run row).state (OfTimer timer))
     (kind_of case.topology row.part) effects may.does in
     let here : IsStateOf case.topology row.part (row_of case.topology run row).state = subst
     (λ (n : RowName). IsStateOf case.topology n.part (row_of case.topology run n).state) (sym (some_same row name written)) of in
@@ -171,12 +171,12 @@ changed-no_timer : (case : CaseShape) (run : Run) (entry : Entry) (sent : List D
     → is_injector case.topology name.part ≡ true → (row_of case.topology run name).timers ≡ []
     → (changed entry sent (row_of case.topology run name)).timers ≡ []
 changed-no_timer case run (Handle seq row id effects) sent name may written is none =
-    let kind = was_some (λ (kind : Kind). effects_of_record kind row.key (row_of case.topology run row).state may.delivery.item)
+    let kind = was_some (λ (kind : Kind). effects_of kind row.key (row_of case.topology run row).state (OfRecord may.delivery.item))
     (kind_of case.topology row.part) effects may.does in
     absurd (injector-no_kind case.topology row.part kind.0
     (subst (λ (n : RowName). is_injector case.topology n.part ≡ true) (sym (some_same row name written)) is) kind.1)
 changed-no_timer case run (Fire seq row timer mark effects) sent name may written is none =
-    let kind = was_some (λ (kind : Kind). effects_of_timer kind row.key (row_of case.topology run row).state timer)
+    let kind = was_some (λ (kind : Kind). effects_of kind row.key (row_of case.topology run row).state (OfTimer timer))
     (kind_of case.topology row.part) effects may.does in
     absurd (injector-no_kind case.topology row.part kind.0
     (subst (λ (n : RowName). is_injector case.topology n.part ≡ true) (sym (some_same row name written)) is) kind.1)

@@ -15,7 +15,7 @@ use Rattle.mw_types.specs.declared.record.Production.{Production}
 use Rattle.mw_types.specs.declared.timer.Timer.{Timer}
 use Rattle.mw_types.specs.Kinds.{IsKind}
 use Rattle.mw_types.specs.Outcomes.{EffectsView}
-use Rattle.computations.specs.Handlers.{unchanged, outcome_with_timer, outcome_with_record, one_more, window_end, counted, count_record, window_due, count_timer, due_time, held_with, spike_record, total_due, is_spike, known_with, spike_timer, effects_of_record, effects_of_timer}
+use Rattle.computations.specs.Handlers.{unchanged, outcome_with_timer, outcome_with_record, one_more, window_end, counted, count_record, window_due, count_timer, due_time, held_with, spike_record, total_due, is_spike, known_with, spike_timer, effects_of, OfRecord, OfTimer}
 
 -- a timer that a cause of this timestamp may set
 pub record IsTimerAfter (stamp : ℕ) (late : Bool) (t : Timer) : Type 0 where
@@ -80,7 +80,7 @@ spike_record-after late held known item in_time =
 
 -- what a part of each kind leaves of a record is no earlier than the record
 pub record-after : (kind : Kind) (key : List ℕ) (state : State) (item : Record) → IsKind kind → item.stamp ≤ MAX_STAMP
-    → IsAfter item.stamp item.late (effects_of_record kind key state item)
+    → IsAfter item.stamp item.late (effects_of kind key state (OfRecord item))
 record-after (kinds.Count size) key (states.Count late windows) item ranged in_time =
     count_record-after size late windows item ranged.0 in_time
 record-after (kinds.Spike last times) key (states.Spike late held known) item ranged in_time =
@@ -149,7 +149,7 @@ spike_timer-after last times key late held known timer (Some due) at in_time =
 
 -- what a part of each kind leaves of a timer is no earlier than the timer
 pub timer-after : (kind : Kind) (key : List ℕ) (state : State) (timer : Timer) → timer.time ≤ MAX_STAMP
-    → IsAfter timer.time timer.late (effects_of_timer kind key state timer)
+    → IsAfter timer.time timer.late (effects_of kind key state (OfTimer timer))
 timer-after (kinds.Count size) key (states.Count late windows) timer in_time =
     count_timer-after key late windows timer (window_due windows timer) (window_due-time windows timer) in_time
 timer-after (kinds.Spike last times) key (states.Spike late held known) timer in_time =

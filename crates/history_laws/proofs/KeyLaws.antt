@@ -27,7 +27,7 @@ use Rattle.injector.specs.Sources.{Source, SourceLine, item_at}
 use Rattle.topology.specs.declared.subscription.By.{By}
 use Rattle.topology.specs.declared.subscription.By.TheVariants.{Key, Head, Tail}
 use Rattle.topology.specs.Shapes.{Shape, consumers_of, extracted, kind_of, or_whole}
-use Rattle.computations.specs.Handlers.{count_timer, effects_of_record, effects_of_timer, is_spike, spike_timer, total_due, window_due}
+use Rattle.computations.specs.Handlers.{count_timer, effects_of, is_spike, spike_timer, total_due, window_due, OfRecord, OfTimer}
 use Rattle.row_parts.specs.Contents.{Contents, fresh, same_id, found_delivery}
 use Rattle.mw_types.specs.Bounds.{IsKey}
 use Rattle.run_history.specs.Cases.{CaseShape, fresh_of, record_of, source_of}
@@ -112,7 +112,7 @@ chosen-keys false one other first second = second
 
 -- what a part of each kind produces of a record has the key of the row or of the record
 pub record-keys : (kind : Kind) (key : List ℕ) (state : State) (item : Record) → IsKey item.key
-    → HaveKeys (effects_of_record kind key state item).productions
+    → HaveKeys (effects_of kind key state (OfRecord item)).productions
 record-keys (kinds.Count size) key (states.Count late windows) item is = chosen-keys item.late _ _ tt tt
 record-keys (kinds.Spike last times) key (states.Spike late held known) item is = chosen-keys item.late _ _ tt tt
 record-keys kinds.Pass key (states.Pass late) item is = (is, tt)
@@ -139,7 +139,7 @@ spike_timer-keys last times key late held known (Some due) is = chosen-keys (is_
 
 -- what a part of each kind produces of a timer has the key of the row
 pub timer-keys : (kind : Kind) (key : List ℕ) (state : State) (timer : Timer) → IsKey key
-    → HaveKeys (effects_of_timer kind key state timer).productions
+    → HaveKeys (effects_of kind key state (OfTimer timer)).productions
 timer-keys (kinds.Count size) key (states.Count late windows) timer is = count_timer-keys key late windows (window_due windows timer) is
 timer-keys (kinds.Spike last times) key (states.Spike late held known) timer is =
     spike_timer-keys last times key late held known (total_due held timer) is
@@ -228,14 +228,14 @@ sent-keys case run (Inject seq part line item) keyed keys may =
     (injected-key case part line item keyed may.of_line, tt)
 sent-keys case run (Handle seq row id effects) keyed keys may =
     let state = (row_of case.topology run row).state in
-    let kind = was_some (λ (kind : Kind). effects_of_record kind row.key state may.delivery.item) (kind_of case.topology row.part) effects may.does in
+    let kind = was_some (λ (kind : Kind). effects_of kind row.key state (OfRecord may.delivery.item)) (kind_of case.topology row.part) effects may.does in
     made-keys case.topology row.part effects.productions _ run.next
     (subst (λ (e : EffectsView). HaveKeys e.productions) kind.2 (record-keys kind.0 row.key state may.delivery.item
     (find-each (λ (d : Delivery). IsKey d.item.key × IsKey d.to.key) (λ (d : Delivery). same_id d.id id) run.unhandled may.delivery
     keys.waiting may.waits).0))
 sent-keys case run (Fire seq row timer mark effects) keyed keys may =
     let state = (row_of case.topology run row).state in
-    let kind = was_some (λ (kind : Kind). effects_of_timer kind row.key state timer) (kind_of case.topology row.part) effects may.does in
+    let kind = was_some (λ (kind : Kind). effects_of kind row.key state (OfTimer timer)) (kind_of case.topology row.part) effects may.does in
     made-keys case.topology row.part effects.productions _ run.next
     (subst (λ (e : EffectsView). HaveKeys e.productions) kind.2 (timer-keys kind.0 row.key state timer
     (keys.rows row (fire-there case run seq row timer mark effects may))))

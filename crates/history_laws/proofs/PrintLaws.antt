@@ -17,7 +17,7 @@ use Rattle.mw_types.specs.declared.entry.Entry.{Entry}
 use Rattle.mw_types.specs.declared.entry.Entry.TheVariants.{Claim, Inject, Handle, Fire, Ack, Purge}
 use Rattle.mw_types.specs.Outcomes.{EffectsView}
 use Rattle.topology.specs.Shapes.{parts_of, injectors_of, kind_of}
-use Rattle.computations.specs.Handlers.{unchanged, outcome_with_timer, outcome_with_record, one_more, window_end, counted, window_due, count_timer, due_time, held_with, total_due, is_spike, known_with, spike_timer, effects_of_record, effects_of_timer}
+use Rattle.computations.specs.Handlers.{unchanged, outcome_with_timer, outcome_with_record, one_more, window_end, counted, window_due, count_timer, due_time, held_with, total_due, is_spike, known_with, spike_timer, effects_of, OfRecord, OfTimer}
 use Rattle.row_parts.specs.Contents.{Contents, fresh, found_delivery}
 use Rattle.run_history.specs.Cases.{CaseShape, fresh_of}
 use Rattle.run_history.specs.Made.{productions_of}
@@ -48,7 +48,7 @@ spike_timer-few last times key late held known (Some due) =
     (unchanged state)).productions ≤ 8) [ true ↦ omega arith | false ↦ omega arith ]
 
 -- a timer produces one record at most
-timer-few : (kind : Kind) (key : List ℕ) (state : State) (timer : Timer) → length (effects_of_timer kind key state timer).productions ≤ 8
+timer-few : (kind : Kind) (key : List ℕ) (state : State) (timer : Timer) → length (effects_of kind key state (OfTimer timer)).productions ≤ 8
 timer-few (kinds.Count size) key (states.Count late windows) timer = count_timer-few key late windows (window_due windows timer)
 timer-few (kinds.Spike last times) key (states.Spike late held known) timer = spike_timer-few last times key late held known
     (total_due held timer)
@@ -61,7 +61,7 @@ timer-few (kinds.Spike last times) key (states.Count late windows) timer = omega
 timer-few (kinds.Spike last times) key (states.Pass late) timer = omega arith
 
 -- a record produces one record at most
-record-few : (kind : Kind) (key : List ℕ) (state : State) (item : Record) → length (effects_of_record kind key state item).productions ≤ 8
+record-few : (kind : Kind) (key : List ℕ) (state : State) (item : Record) → length (effects_of kind key state (OfRecord item)).productions ≤ 8
 record-few (kinds.Count size) key (states.Count late windows) item =
     elim item.late as (λ b. length (cond b (unchanged (states.Count (one_more late) windows))
     (outcome_with_timer (states.Count late (counted windows (window_end size item.stamp)))
@@ -84,12 +84,12 @@ record-few kinds.Pass key (states.Spike late held known) item = omega arith
 -- an entry that may follow has few productions
 few-productions : (case : CaseShape) (run : Run) (entry : Entry) → MayFollow case run entry → length (productions_of entry) ≤ 8
 few-productions case run (Handle seq row id effects) may =
-    let kind = was_some (λ (kind : Kind). effects_of_record kind row.key (row_of case.topology run row).state may.delivery.item)
+    let kind = was_some (λ (kind : Kind). effects_of kind row.key (row_of case.topology run row).state (OfRecord may.delivery.item))
     (kind_of case.topology row.part) effects may.does in
     subst (λ (o : EffectsView). length o.productions ≤ 8) kind.2
     (record-few kind.0 row.key (row_of case.topology run row).state may.delivery.item)
 few-productions case run (Fire seq row timer mark effects) may =
-    let kind = was_some (λ (kind : Kind). effects_of_timer kind row.key (row_of case.topology run row).state timer)
+    let kind = was_some (λ (kind : Kind). effects_of kind row.key (row_of case.topology run row).state (OfTimer timer))
     (kind_of case.topology row.part) effects may.does in
     subst (λ (o : EffectsView). length o.productions ≤ 8) kind.2 (timer-few kind.0 row.key (row_of case.topology run row).state timer)
 few-productions case run _ may = omega arith
@@ -110,11 +110,11 @@ on_part case run (Claim worker interval) rows may = tt
 on_part case run (Inject seq part line item) rows may = let below = ltb-true part (injectors_of case.topology) may.injector in
     omega (arith, below)
 on_part case run (Handle seq row id effects) rows may =
-    let kind = was_some (λ (kind : Kind). effects_of_record kind row.key (row_of case.topology run row).state may.delivery.item)
+    let kind = was_some (λ (kind : Kind). effects_of kind row.key (row_of case.topology run row).state (OfRecord may.delivery.item))
     (kind_of case.topology row.part) effects may.does in
     kind-there case.topology row.part kind.0 kind.1
 on_part case run (Fire seq row timer mark effects) rows may =
-    let kind = was_some (λ (kind : Kind). effects_of_timer kind row.key (row_of case.topology run row).state timer)
+    let kind = was_some (λ (kind : Kind). effects_of kind row.key (row_of case.topology run row).state (OfTimer timer))
     (kind_of case.topology row.part) effects may.does in
     kind-there case.topology row.part kind.0 kind.1
 on_part case run (Ack seq row id) rows may = rows row (there (row_in run row) may.pending)

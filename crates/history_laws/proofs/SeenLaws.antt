@@ -14,7 +14,7 @@ use Rattle.mw_types.specs.declared.delivery.Delivery.{Delivery}
 use Rattle.mw_types.specs.declared.entry.Entry.{Entry}
 use Rattle.mw_types.specs.declared.entry.Entry.TheVariants.{Claim, Inject, Handle, Fire, Ack, Purge}
 use Rattle.topology.specs.Shapes.{Shape, kind_of}
-use Rattle.computations.specs.Handlers.{effects_of_record, effects_of_timer}
+use Rattle.computations.specs.Handlers.{effects_of, OfRecord, OfTimer}
 use Rattle.row_parts.specs.Contents.{Contents, same_id, cursor_in, found_delivery}
 use Rattle.run_history.specs.Cases.{CaseShape}
 use Rattle.run_history.specs.Made.{row_written, deliveries_of}
@@ -177,12 +177,12 @@ MayFollow-seen case front rest interval seq entry runs legal fenced seen under m
           waits = waits-seen case front rest interval seq id may.delivery legal fenced seen
               (ap (interval_of shape) may.to_row ∙ lies) may.waits;
           to_row = may.to_row;
-          does = ap (λ (c : Contents). option_map (λ (kind : Kind). effects_of_record kind row.key c.state may.delivery.item)
+          does = ap (λ (c : Contents). option_map (λ (kind : Kind). effects_of kind row.key c.state (OfRecord may.delivery.item))
               (kind_of shape row.part)) (row-same row lies) ∙ may.does;
         }
     by_kind (Fire carried row timer mark effects) under may =
         let lies : interval_of shape row ≡ Some interval = lies-in row under.name under.on_row under.of_interval in
-        let kind = was_some (λ (kind : Kind). effects_of_timer kind row.key (row_of shape (run_of shape front) row).state timer)
+        let kind = was_some (λ (kind : Kind). effects_of kind row.key (row_of shape (run_of shape front) row).state (OfTimer timer))
         (kind_of shape row.part) effects may.does in
         let there = kind-there shape row.part kind.0 kind.1 in
         let rises = low_watermark-rises case front rest row.part runs legal (omega (arith, there)) in
@@ -190,7 +190,7 @@ MayFollow-seen case front rest interval seq entry runs legal fenced seen under m
           least_timer = ap (λ (c : Contents). slice_get c.timers 0) (row-same row lies) ∙ may.least_timer;
           due = may.due;
           under_watermark = omega (arith, rises, under_mark);
-          does = ap (λ (c : Contents). option_map (λ (kind : Kind). effects_of_timer kind row.key c.state timer)
+          does = ap (λ (c : Contents). option_map (λ (kind : Kind). effects_of kind row.key c.state (OfTimer timer))
               (kind_of shape row.part)) (row-same row lies) ∙ may.does;
         }
     by_kind (Ack carried row id) under may =

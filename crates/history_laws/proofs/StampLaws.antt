@@ -23,7 +23,7 @@ use Rattle.mw_types.specs.Orders.{timer_cmp}
 use Rattle.mw_types.specs.Outcomes.{EffectsView}
 use Rattle.injector.specs.Sources.{Source, SourceLine, IsSource, item_at}
 use Rattle.topology.specs.Shapes.{Shape, consumers_of, kind_of}
-use Rattle.computations.specs.Handlers.{effects_of_record, effects_of_timer}
+use Rattle.computations.specs.Handlers.{effects_of, OfRecord, OfTimer}
 use Rattle.row_parts.specs.Contents.{Contents, with_timer, set_again, is_timer, same_id}
 use Rattle.run_history.specs.Cases.{CaseShape, source_of, record_of}
 use Rattle.run_history.specs.Made.{deliveries_of, deliveries_made}
@@ -128,7 +128,7 @@ pub handle-after : (case : CaseShape) (run : Run) (seq : ℕ) (row : RowName) (i
     → AreInTime run
     → (may : MayFollow case run (Handle seq row id effects)) → IsAfter may.delivery.item.stamp may.delivery.item.late effects
 handle-after case run seq row id effects runs in_time may =
-    let kind = was_some (λ (kind : Kind). effects_of_record kind row.key (row_of case.topology run row).state may.delivery.item)
+    let kind = was_some (λ (kind : Kind). effects_of kind row.key (row_of case.topology run row).state (OfRecord may.delivery.item))
     (kind_of case.topology row.part) effects may.does in
     subst (IsAfter may.delivery.item.stamp may.delivery.item.late) kind.2
     (record-after kind.0 row.key (row_of case.topology run row).state may.delivery.item
@@ -147,7 +147,7 @@ fire-in_time case run seq row timer mark effects in_time may =
 pub fire-after : (case : CaseShape) (run : Run) (seq : ℕ) (row : RowName) (timer : Timer) (mark : ℕ) (effects : EffectsView) → AreInTime run
     → MayFollow case run (Fire seq row timer mark effects) → IsAfter timer.time timer.late effects
 fire-after case run seq row timer mark effects in_time may =
-    let kind = was_some (λ (kind : Kind). effects_of_timer kind row.key (row_of case.topology run row).state timer)
+    let kind = was_some (λ (kind : Kind). effects_of kind row.key (row_of case.topology run row).state (OfTimer timer))
     (kind_of case.topology row.part) effects may.does in
     subst (IsAfter timer.time timer.late) kind.2
     (timer-after kind.0 row.key (row_of case.topology run row).state timer (fire-in_time case run seq row timer mark effects in_time may))

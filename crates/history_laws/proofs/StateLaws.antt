@@ -20,9 +20,9 @@ use Rattle.mw_types.specs.declared.entry.Entry.TheVariants.{Inject, Handle, Fire
 use Rattle.mw_types.specs.Bounds.{IsWithin}
 use Rattle.mw_types.specs.Outcomes.{EffectsView, AreEffects}
 use Rattle.topology.specs.Shapes.{Shape, ComputationShape, injectors_of, kind_of}
-use Rattle.computations.specs.Handlers.{fresh_state, unchanged, outcome_with_timer, outcome_with_record, one_more, window_end, entered, counted, window_due, count_timer, due_time, held_with, total_due, is_spike, known_with, spike_timer, effects_of_record, effects_of_timer}
+use Rattle.computations.specs.Handlers.{fresh_state, unchanged, outcome_with_timer, outcome_with_record, one_more, window_end, entered, counted, window_due, count_timer, due_time, held_with, total_due, is_spike, known_with, spike_timer, effects_of, OfRecord, OfTimer}
 use Rattle.computations.specs.Laws.{IsShort}
-use Rattle.computations.specs.Parts.{Parts, kind_at, HasState, part_record, part_timer}
+use Rattle.computations.specs.Parts.{Parts, kind_at, HasState, part_effects}
 use Rattle.computations.specs.HandlerLaws.{part_record-lawful, part_timer-lawful}
 use Rattle.row_parts.specs.Contents.{Contents, same_id}
 use Rattle.run_history.specs.Cases.{CaseShape}
@@ -59,7 +59,7 @@ length-entered number x change (y ∷ ys) =
 
 -- a record adds at most one element to a state
 record-size : (kind : Kind) (key : List ℕ) (state : State) (item : Record)
-    → size_of (effects_of_record kind key state item).state ≤ size_of state + 1
+    → size_of (effects_of kind key state (OfRecord item)).state ≤ size_of state + 1
 record-size (kinds.Count size) key (states.Count late windows) item =
     elim item.late as (λ b. size_of (cond b (unchanged (states.Count (one_more late) windows))
     (outcome_with_timer (states.Count late (counted windows (window_end size item.stamp)))
@@ -107,7 +107,7 @@ spike_timer-size last times key late held known (Some due) =
 
 -- a timer adds at most one element to a state
 timer-size : (kind : Kind) (key : List ℕ) (state : State) (timer : Timer)
-    → size_of (effects_of_timer kind key state timer).state ≤ size_of state + 1
+    → size_of (effects_of kind key state (OfTimer timer)).state ≤ size_of state + 1
 timer-size (kinds.Count size) key (states.Count late windows) timer = count_timer-size key late windows (window_due windows timer)
 timer-size (kinds.Spike last times) key (states.Spike late held known) timer = spike_timer-size last times key late held known
     (total_due held timer)
@@ -178,13 +178,13 @@ changed-size : (case : CaseShape) (run : Run) (entry : Entry) (sent : List Deliv
     → size_of (changed entry sent (row_of case.topology run name)).state ≤ size_of (row_of case.topology run name).state + 1
 changed-size case run (Inject seq part line item) sent name may written = advanced-size (row_of case.topology run name).state
 changed-size case run (Handle seq row id effects) sent name may written =
-    let kind = was_some (λ (kind : Kind). effects_of_record kind row.key (row_of case.topology run row).state may.delivery.item)
+    let kind = was_some (λ (kind : Kind). effects_of kind row.key (row_of case.topology run row).state (OfRecord may.delivery.item))
     (kind_of case.topology row.part) effects may.does in
     subst (λ (n : RowName). size_of effects.state ≤ size_of (row_of case.topology run n).state + 1) (some_same row name written)
     (subst (λ (o : EffectsView). size_of o.state ≤ size_of (row_of case.topology run row).state + 1) kind.2
     (record-size kind.0 row.key (row_of case.topology run row).state may.delivery.item))
 changed-size case run (Fire seq row timer mark effects) sent name may written =
-    let kind = was_some (λ (kind : Kind). effects_of_timer kind row.key (row_of case.topology run row).state timer)
+    let kind = was_some (λ (kind : Kind). effects_of kind row.key (row_of case.topology run row).state (OfTimer timer))
     (kind_of case.topology row.part) effects may.does in
     subst (λ (n : RowName). size_of effects.state ≤ size_of (row_of case.topology run n).state + 1) (some_same row name written)
     (subst (λ (o : EffectsView). size_of o.state ≤ size_of (row_of case.topology run row).state + 1) kind.2
@@ -208,25 +208,25 @@ changed-within case run (Inject seq part line item) sent name runs are in_time m
     (row_of case.topology run name).state (within name) few
 changed-within case run (Handle seq row id effects) sent name runs are in_time may written within few =
     let state = (row_of case.topology run row).state in
-    let kind = was_some (λ (kind : Kind). effects_of_record kind row.key state may.delivery.item)
+    let kind = was_some (λ (kind : Kind). effects_of kind row.key state (OfRecord may.delivery.item))
     (kind_of case.topology row.part) effects may.does in
     let lawful = part_record-lawful (parts_as case.topology) row.part row.key state may.delivery.item
     (has-state case run row kind.0 runs are kind.1) (within row)
     (find-each (λ (d : Delivery). d.item.stamp ≤ MAX_STAMP)
     (λ (d : Delivery). same_id d.id id) run.unhandled may.delivery in_time.waiting may.waits) in
-    let same : part_record (parts_as case.topology) row.part row.key state may.delivery.item ≡ effects =
-    ap (λ k. option_map_or (λ kind. effects_of_record kind row.key state may.delivery.item) k (unchanged state))
+    let same : part_effects (parts_as case.topology) row.part row.key state (OfRecord may.delivery.item) ≡ effects =
+    ap (λ k. option_map_or (λ kind. effects_of kind row.key state (OfRecord may.delivery.item)) k (unchanged state))
     (kind_at-of case.topology row.part ∙ kind.1) ∙ kind.2 in
     let kept = subst (λ (o : EffectsView). IsShort o.state → AreEffects o.state o.timers o.productions) same lawful.within in
     (kept (short-few effects.state few)).state_within
 changed-within case run (Fire seq row timer mark effects) sent name runs are in_time may written within few =
     let state = (row_of case.topology run row).state in
-    let kind = was_some (λ (kind : Kind). effects_of_timer kind row.key state timer) (kind_of case.topology row.part) effects may.does in
+    let kind = was_some (λ (kind : Kind). effects_of kind row.key state (OfTimer timer)) (kind_of case.topology row.part) effects may.does in
     let lawful = part_timer-lawful (parts_as case.topology) row.part row.key state timer (has-state case run row kind.0 runs are kind.1)
     (within row)
     (fire-in_time case run seq row timer mark effects in_time may) in
-    let same : part_timer (parts_as case.topology) row.part row.key state timer ≡ effects =
-    ap (λ k. option_map_or (λ kind. effects_of_timer kind row.key state timer) k (unchanged state))
+    let same : part_effects (parts_as case.topology) row.part row.key state (OfTimer timer) ≡ effects =
+    ap (λ k. option_map_or (λ kind. effects_of kind row.key state (OfTimer timer)) k (unchanged state))
     (kind_at-of case.topology row.part ∙ kind.1) ∙ kind.2 in
     let kept = subst (λ (o : EffectsView). IsShort o.state → AreEffects o.state o.timers o.productions) same lawful.within in
     (kept (short-few effects.state few)).state_within

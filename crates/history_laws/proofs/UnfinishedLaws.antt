@@ -15,7 +15,7 @@ use Rattle.mw_types.specs.declared.delivery.Delivery.{Delivery}
 use Rattle.mw_types.specs.declared.entry.Entry.{Entry}
 use Rattle.mw_types.specs.declared.entry.Entry.TheVariants.{Inject, Handle, Fire}
 use Rattle.topology.specs.Shapes.{kind_of, injectors_of}
-use Rattle.computations.specs.Handlers.{effects_of_record, effects_of_timer}
+use Rattle.computations.specs.Handlers.{effects_of, OfRecord, OfTimer}
 use Rattle.row_parts.specs.Contents.{Contents, cursor_in, found_delivery}
 use Rattle.run_history.specs.Cases.{CaseShape, is_injector, source_of}
 use Rattle.run_history.specs.Made.{row_written, deliveries_of}
@@ -66,12 +66,12 @@ changed-within case run (Inject seq other line item) sent name may is written ol
     let step = advanced-within (row_of case.topology run (record { part = other; key = [] })).state in
     omega (arith, within, next, step))
 changed-within case run (Handle seq row id effects) sent name may is written old =
-    let kind = was_some (λ (kind : Kind). effects_of_record kind row.key (row_of case.topology run row).state may.delivery.item)
+    let kind = was_some (λ (kind : Kind). effects_of kind row.key (row_of case.topology run row).state (OfRecord may.delivery.item))
     (kind_of case.topology row.part) effects may.does in
     absurd (injector-no_kind case.topology row.part kind.0
     (subst (λ (n : RowName). is_injector case.topology n.part ≡ true) (sym (some_same row name written)) is) kind.1)
 changed-within case run (Fire seq row timer mark effects) sent name may is written old =
-    let kind = was_some (λ (kind : Kind). effects_of_timer kind row.key (row_of case.topology run row).state timer)
+    let kind = was_some (λ (kind : Kind). effects_of kind row.key (row_of case.topology run row).state (OfTimer timer))
     (kind_of case.topology row.part) effects may.does in
     absurd (injector-no_kind case.topology row.part kind.0
     (subst (λ (n : RowName). is_injector case.topology n.part ≡ true) (sym (some_same row name written)) is) kind.1)

@@ -23,7 +23,7 @@ use Rattle.mw_types.specs.Outcomes.{EffectsView}
 use Rattle.injector.specs.Sources.{Source, SourceLine, IsSource, stated_at}
 use Rattle.topology.specs.declared.subscription.Subscription.{Subscription}
 use Rattle.topology.specs.Shapes.{Shape, parts_of, injectors_of, feeds_of, kind_of}
-use Rattle.computations.specs.Handlers.{effects_of_record, effects_of_timer}
+use Rattle.computations.specs.Handlers.{effects_of, OfRecord, OfTimer}
 use Rattle.row_parts.specs.Contents.{Contents, set_again, is_timer, same_id, cursor_in}
 use Rattle.run_history.specs.Cases.{CaseShape, is_injector, source_of}
 use Rattle.run_history.specs.Made.{row_written, late_cause, deliveries_of, deliveries_made}
@@ -151,7 +151,7 @@ sent-from case history run (Inject seq part line item) x reader runs ids in_time
     let later = injected-from case run seq part line item runs may on_time in
     (omega (arith, from, later), tt))
 sent-from case history run (Handle seq row id effects) x reader runs ids in_time may feeds =
-    let kind = was_some (λ (kind : Kind). effects_of_record kind row.key (row_of case.topology run row).state may.delivery.item)
+    let kind = was_some (λ (kind : Kind). effects_of kind row.key (row_of case.topology run row).state (OfRecord may.delivery.item))
     (kind_of case.topology row.part) effects may.does in
     made-from case.topology row.part effects.productions (late_cause run.made (Handle seq row id effects)) run.next x reader
     (kind-there case.topology row.part kind.0 kind.1)
@@ -164,7 +164,7 @@ sent-from case history run (Handle seq row id effects) x reader runs ids in_time
     (sym (ap not (handled-late case history run seq row id effects ids may)) ∙ on_time))
     (handle-after case run seq row id effects runs in_time may).productions)
 sent-from case history run (Fire seq row timer mark effects) x reader runs ids in_time may feeds =
-    let kind = was_some (λ (kind : Kind). effects_of_timer kind row.key (row_of case.topology run row).state timer)
+    let kind = was_some (λ (kind : Kind). effects_of kind row.key (row_of case.topology run row).state (OfTimer timer))
     (kind_of case.topology row.part) effects may.does in
     made-from case.topology row.part effects.productions timer.late run.next x reader (kind-there case.topology row.part kind.0 kind.1)
     (λ fed on_time.
@@ -273,12 +273,12 @@ changed-cursor : (case : CaseShape) (run : Run) (entry : Entry) (sent : List Del
     → IsNextOr (cursor_in (changed entry sent (row_of case.topology run name)).state) (cursor_in (row_of case.topology run name).state)
 changed-cursor case run (Inject seq part line item) sent name may is written = advanced-next (row_of case.topology run name).state
 changed-cursor case run (Handle seq row id effects) sent name may is written =
-    let kind = was_some (λ (kind : Kind). effects_of_record kind row.key (row_of case.topology run row).state may.delivery.item)
+    let kind = was_some (λ (kind : Kind). effects_of kind row.key (row_of case.topology run row).state (OfRecord may.delivery.item))
     (kind_of case.topology row.part) effects may.does in
     absurd (injector-no_kind case.topology row.part kind.0
     (subst (λ (n : RowName). is_injector case.topology n.part ≡ true) (sym (some_same row name written)) is) kind.1)
 changed-cursor case run (Fire seq row timer mark effects) sent name may is written =
-    let kind = was_some (λ (kind : Kind). effects_of_timer kind row.key (row_of case.topology run row).state timer)
+    let kind = was_some (λ (kind : Kind). effects_of kind row.key (row_of case.topology run row).state (OfTimer timer))
     (kind_of case.topology row.part) effects may.does in
     absurd (injector-no_kind case.topology row.part kind.0
     (subst (λ (n : RowName). is_injector case.topology n.part ≡ true) (sym (some_same row name written)) is) kind.1)
