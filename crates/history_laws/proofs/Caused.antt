@@ -1,5 +1,5 @@
 -- What a record or a timer brings about in a row: what entries of both kinds have in common.
-use Rattle.std.proofs.Common.{◌≡◌, ◌≤◌, ℕ, Bool, false, true, List, [], ◌∷◌, length, refl, sym, ◌∙◌, ap, subst, arith}
+use Rattle.std.proofs.Common.{◌≡◌, ◌≤◌, ℕ, Bool, false, true, List, [], ◌∷◌, ◌++◌, length, refl, sym, ◌∙◌, ap, subst, arith}
 use Rattle.std.specs.Prelude.{⊤, Option, Some, not, slice_get}
 use Rattle.std.specs.List.{AllByRecursion}
 use Rattle.std.specs.Option.{option_map_or}
@@ -120,8 +120,9 @@ pub record IsCaused (case : CaseShape) (run : Run) (entry : Entry) (name : RowNa
   -- what it makes is what the handler produced, as late as the cause
   pub makes : productions_of entry ≡ effects.productions
   pub late : (history : List Entry) → AreIds history run → late_cause run.made entry ≡ is_late_cause cause
-  -- the row has the handler's state, and no timers but its own and the handler's
+  -- the row has the handler's state, what was made is pending, and no timers are set but its own and the handler's
   pub left : (sent : List Delivery) (row : Contents) → (changed entry sent row).state ≡ effects.state
+  pub pending : (sent : List Delivery) (row : Contents) → (changed entry sent row).pending ≡ row.pending ++ sent
   pub timers : (P : Timer → Type 0) → IsKeptAgain P → (sent : List Delivery) (row : Contents) → AllByRecursion P effects.timers
       → AllByRecursion P row.timers → AllByRecursion P (changed entry sent row).timers
 
@@ -137,6 +138,7 @@ caused-handle_here case run seq row id effects may = record {
   late = λ history ids. ap (λ o. option_map_or (λ (d : Delivery). d.item.late) o false)
       (waits_as_made history run id may.delivery ids may.waits);
   left = λ sent c. refl;
+  pending = λ sent c. refl;
   timers = λ P again sent c new old. with_timers-each P again effects.timers c.timers new old;
 }
 
@@ -151,6 +153,7 @@ caused-fire_here case run seq row timer mark effects may = record {
   makes = refl;
   late = λ history ids. refl;
   left = λ sent c. refl;
+  pending = λ sent c. refl;
   timers = λ P again sent c new old. each-filter P (λ t. not (is_timer timer.tag timer.time t)) c.timers old;
 }
 
