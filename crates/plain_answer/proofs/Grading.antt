@@ -5,6 +5,7 @@ use Rattle.std.specs.List.{AllByRecursion}
 use Rattle.std.proofs.lemmas.Bool.{ltb-true}
 use Rattle.std.proofs.lemmas.List.Elements.{All-contains, All-from_recursion}
 use Rattle.mw_types.specs.declared.TheConstants.{MAX_STAMP}
+use Rattle.mw_types.specs.declared.identity.RecordId.{RecordId}
 use Rattle.mw_types.specs.declared.identity.RowName.{RowName}
 use Rattle.mw_types.specs.declared.record.Production.{Production}
 use Rattle.mw_types.specs.declared.timer.Timer.{Timer}
@@ -16,7 +17,7 @@ use Rattle.mw_types.specs.Outcomes.{EffectsView}
 use Rattle.topology.specs.declared.subscription.Subscription.{Subscription}
 use Rattle.topology.specs.Shapes.{Shape, parts_of, injectors_of, consumers_of, feeds_of}
 use Rattle.topology.specs.Rules.{IsTopology}
-use Rattle.row_parts.specs.Contents.{Contents}
+use Rattle.row_parts.specs.Contents.{Contents, found_delivery, same_id}
 use Rattle.computations.specs.Handlers.{Cause, stamp_of, is_record, OfRecord, OfTimer}
 use Rattle.computations.specs.Leaving.{IsNear, IsTimerAfter, IsProductionAfter}
 use Rattle.run_history.specs.Cases.{CaseShape, source_of}
@@ -25,7 +26,7 @@ use Rattle.run_history.specs.Runs.{Run, run_of, row_of, followed, changed, still
 use Rattle.run_history.specs.Legal.{MayFollow, IsLegal}
 use Rattle.run_history.specs.Inputs.{IsRunnable}
 use Rattle.run_history.specs.Finished.{handles}
-use Rattle.list_lemmas.proofs.Lists.{each-append, each-weaker, each-filter}
+use Rattle.list_lemmas.proofs.Lists.{each-append, each-weaker, each-filter, find-each}
 use Rattle.history_laws.proofs.Along.{along_history}
 use Rattle.history_laws.proofs.Caused.{IsCaused, of_standing, caused-handle, caused-fire, caused-there, caused-sent}
 use Rattle.history_laws.proofs.FeedLaws.{consumers-fed, feeds-before, kind-ranged}
@@ -176,3 +177,12 @@ module _ (case : CaseShape) (runs : IsRunnable case) where
 pub legal-graded : (case : CaseShape) (history : List Entry) → IsRunnable case → IsLegal case history
     → AreGraded case.topology (run_of case.topology history)
 legal-graded case history runs legal = graded-all case runs history legal
+
+-- what waits for a part is below the greatest timestamp
+pub waits-small : (case : CaseShape) (run : Run) (name : RowName) (id : RecordId) (d : Delivery) → IsRunnable case
+    → AreGraded case.topology run → name.part < parts_of case.topology → found_delivery id run.unhandled ≡ Some d → d.to ≡ name
+    → d.item.stamp < MAX_STAMP
+waits-small case run name id d runs graded there waits to_row =
+    let low : d.item.stamp ≤ grade name.part = subst (λ (r : RowName). d.item.stamp ≤ grade r.part) to_row
+    (find-each IsGraded (λ (e : Delivery). same_id e.id id) run.unhandled d graded.waiting waits) in
+    omega (arith, low, there, runs.topology.few_injectors, runs.topology.few_computations)

@@ -41,13 +41,12 @@ use Rattle.history_laws.proofs.RowSteps.{on_row_or_not, row_of-here, row_of-else
 use Rattle.history_laws.proofs.StampLaws.{legal-in_time}
 use Rattle.history_laws.proofs.WorkLaws.{WaitsFrom, IsWorkFrom}
 use Rattle.list_lemmas.proofs.Lists.{none_some, some_same, each-append, each-weaker, find-each}
-use Rattle.plain_answer.specs.Grades.{grade}
 use Rattle.plain_answer.specs.Plain.{sum_of_last, spike_at, spikes_in}
 use Rattle.plain_answer.specs.Places.{with_place}
 use Rattle.plain_answer.specs.Stories.{handled_by, added_by, done_of, out_of, fired_keys_by, fired_keys}
 use Rattle.plain_answer.proofs.Closing.{same-key, key-itself}
 use Rattle.plain_answer.proofs.Counting.{tie, apart-false}
-use Rattle.plain_answer.proofs.Grading.{IsGraded, legal-graded}
+use Rattle.plain_answer.proofs.Grading.{legal-graded, waits-small}
 use Rattle.plain_answer.proofs.Members.{out_at, out_at-append, added-here, added-other, computation-apart}
 use Rattle.plain_answer.proofs.Causes.{kind-left, handled-nothing, fired-other}
 use Rattle.plain_answer.proofs.Places.{held_place, held_timer, places-held, place-behind, Climb, AreLow, Climb-held, AreLow-held, timers-held, first-timer, lastly, spikes-push}
@@ -62,10 +61,6 @@ module _ (case : CaseShape) (name : RowName) (last times : ℕ) (runs : IsRunnab
   -- the part is there
   there : name.part < parts_of shape
   there = kind-there shape name.part (kinds.Spike last times) kind
-
-  -- there are at most 48 parts
-  few_parts : parts_of shape ≤ 48
-  few_parts = omega (arith, runs.topology.few_injectors, runs.topology.few_computations)
 
   -- the members of the stream under the row's key
   abbrev own : List Record → List Record
@@ -159,16 +154,6 @@ module _ (case : CaseShape) (name : RowName) (last times : ℕ) (runs : IsRunnab
       (ap not in_time)) in
       omega (arith, due, small)
 
-  -- what waits for the row is below the greatest timestamp
-  small : (h : List Entry) (id : RecordId) (d : Delivery) → IsLegal case h
-      → found_delivery id (run_of shape h).unhandled ≡ Some d → d.to ≡ name
-      → d.item.stamp < MAX_STAMP
-  small h id d legal waits to_row =
-      let graded : d.item.stamp ≤ grade d.to.part = find-each IsGraded (λ (e : Delivery). same_id e.id id) (run_of shape h).unhandled d
-      (legal-graded case h runs legal).waiting waits in
-      let here : d.item.stamp ≤ grade name.part = subst (λ (r : RowName). d.item.stamp ≤ grade r.part) to_row graded in
-      omega (arith, here, there, few_parts)
-
   -- the part is itself
   self : (name.part == name.part) ≡ true
   self = eq-eqb name.part name.part refl
@@ -219,7 +204,8 @@ module _ (case : CaseShape) (name : RowName) (last times : ℕ) (runs : IsRunnab
       by_late false is =
           let more = subst (HoldsMore was.late was.held (lastly last (values was.over)) d.item) left
           (holds-more was.late was.held (lastly last (values was.over)) d.item is) in
-          let low : d.item.stamp < MAX_STAMP = small h id d legal may.waits may.to_row in
+          let low : d.item.stamp < MAX_STAMP =
+          waits-small case run name id d runs (legal-graded case h runs legal) there may.waits may.to_row in
           let place : ℕ × ℤ = (d.item.stamp, d.item.value) in record {
             late = was.late;
             over = was.over;
