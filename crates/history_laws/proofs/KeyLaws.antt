@@ -34,7 +34,7 @@ use Rattle.mw_types.specs.Bounds.{IsKey}
 use Rattle.run_history.specs.Cases.{CaseShape, fresh_of, record_of, source_of}
 use Rattle.run_history.specs.Finished.{handles}
 use Rattle.run_history.specs.Legal.{IsLegal, MayFollow}
-use Rattle.run_history.specs.Made.{deliveries_made, deliveries_of, row_written}
+use Rattle.run_history.specs.Made.{deliveries_made, deliveries_of, late_cause, row_written}
 use Rattle.run_history.specs.Runs.{Run, followed, row_in, row_of, run_of, still_unhandled}
 use Rattle.list_lemmas.proofs.Lists.{each-all, each-append, each-filter, each-weaker, find-each, none_some, some_same}
 use Rattle.history_laws.specs.Keys.{AreKeyed, HasKeys}
