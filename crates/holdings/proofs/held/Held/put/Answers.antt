@@ -11,17 +11,17 @@ use Rattle.run_history.specs.Runs.{cached, row_in}
 use Rattle.book.specs.Answers.{answer_of}
 use Rattle.book.specs.Books.{LeaseView}
 use Rattle.book.specs.DeskReasons.{HasReason}
-use Rattle.book.specs.Desking.{HasWritten, IsRowKnown, MayAsk}
-use Rattle.book.specs.Proposals.{IsProposable}
+use Rattle.book.specs.Desking.{IsRowKnown, MayAsk}
+use Rattle.book.specs.Writings.{HasPut, MayPut}
 use Rattle.holdings.specs.Holding.{HeldView}
 use Rattle.holdings.proofs.HeldRows.{found-put}
 use Rattle.holdings.proofs.HeldSteps.{so-there}
-use Rattle.holdings.proofs.PutRows.{HasPut-written, WasNoted-put, held-refused}
-use Rattle.holdings.proofs.held.Held.write.Goals as goal
+use Rattle.holdings.proofs.PutRows.{IsRewritten-put, WasNoted-put, held-refused}
+use Rattle.holdings.proofs.held.Held.put.Goals as goal
 
 -- the row that is lent is the one that is known
-pub write_in-written-requires : goal.write_in-written-requires
-write_in-written-requires g c =
+pub put-written-requires : goal.put-written-requires
+put-written-requires g c =
     let desk = g.D.Desk.view c.args.desk.now in
     let lease : c.self.inside.lease ≡ c.args.self.now.lease = ap (λ (h : HeldView). h.lease) c.self.view_is in
     let was : row_in (cached c.args.self.now.rows) c.args.name.now ≡ Some c.row_mut-row.result.now =
@@ -31,45 +31,44 @@ write_in-written-requires g c =
       row = subst (λ (l : LeaseView). IsRowKnown desk l c.args.name.now c.row_mut-row.result.now) (sym lease)
           (so-there (IsRowKnown desk c.args.self.now.lease c.args.name.now) (row_in (cached c.args.self.now.rows) c.args.name.now)
           c.row_mut-row.result.now was c.requires.row);
-      proposal = so-there (λ (r : Contents). IsProposable desk.case c.args.name.now r c.args.proposal.now)
-          (row_in (cached c.args.self.now.rows) c.args.name.now) c.row_mut-row.result.now was c.requires.proposal;
-      known = c.requires.known;
+      may = so-there (λ (r : Contents). MayPut desk c.args.name.now r c.args.writing)
+          (row_in (cached c.args.self.now.rows) c.args.name.now) c.row_mut-row.result.now was c.requires.may;
     }
 
 -- the row is still cached, and was noted
 pub reindex-requires : goal.reindex-requires
 reindex-requires g c = record {
-  there = ap is_some (found-put c.note-index.new.self c.args.name.now c.write_in-written.new.row);
-  noted = WasNoted-put c.args.name.now c.self.inside.rows c.note-index.new.self c.write_in-written.new.row c.note-index.result.0 c.note-index.result.1
+  there = ap is_some (found-put c.note-index.new.self c.args.name.now c.put-written.new.row);
+  noted = WasNoted-put c.args.name.now c.self.inside.rows c.note-index.new.self c.put-written.new.row c.note-index.result.0 c.note-index.result.1
       c.note-index.ensures.same c.note-index.ensures.noted;
 }
 
 -- a row that was written is held
-pub returns-clause-written : goal.returns-clause-written
-returns-clause-written g c =
+pub returns-clause-put : goal.returns-clause-put
+returns-clause-put g c =
     let old = g.D.Desk.view c.args.desk.now in
-    let new = g.D.Desk.view c.write_in-written.new.self in
+    let new = g.D.Desk.view c.put-written.new.self in
     let rows : c.note-index.new.self ≡ c.args.self.now.rows = c.note-index.ensures.same ∙ ap (λ (h : HeldView). h.rows) c.self.view_is in
-    HasPut-written c.args.self.now c.args.name.now c.row_mut-row.result.now c.write_in-written.new.row c.self.inside.lease c.reindex.new.self
-    c.write_in-written.result (ap (λ (h : HeldView). h.lease) c.self.view_is)
+    IsRewritten-put c.args.self.now c.args.name.now c.row_mut-row.result.now c.put-written.new.row c.self.inside.lease c.reindex.new.self
+    c.put-written.result (ap (λ (h : HeldView). h.lease) c.self.view_is)
     (ap (λ (l : List (RowName × Contents)). row_in (cached l) c.args.name.now) (sym rows) ∙ c.row_mut-row.ensures.row)
-    (c.reindex.ensures.same ∙ ap (λ (l : List (RowName × Contents)). insert_entry row_cmp l c.args.name.now c.write_in-written.new.row) rows)
-    (λ (lease : LeaseView) (row left : Contents) commit. HasWritten old new lease c.args.name.now c.args.proposal.now row (answer_of commit left))
-    c.write_in-written.ensures.written
+    (c.reindex.ensures.same ∙ ap (λ (l : List (RowName × Contents)). insert_entry row_cmp l c.args.name.now c.put-written.new.row) rows)
+    (λ (lease : LeaseView) (row left : Contents) commit. HasPut old new lease c.args.name.now c.args.writing row (answer_of commit left))
+    c.put-written.ensures.put
 
 -- a refusal leaves what is held
 pub returns-clause-kept : goal.returns-clause-kept
 returns-clause-kept g c =
     let rows : c.note-index.new.self ≡ c.args.self.now.rows = c.note-index.ensures.same ∙ ap (λ (h : HeldView). h.rows) c.self.view_is in
-    held-refused c.args.self.now c.args.name.now c.row_mut-row.result.now c.write_in-written.new.row c.self.inside.lease c.reindex.new.self
-    c.write_in-written.result (ap (λ (h : HeldView). h.lease) c.self.view_is)
+    held-refused c.args.self.now c.args.name.now c.row_mut-row.result.now c.put-written.new.row c.self.inside.lease c.reindex.new.self
+    c.put-written.result (ap (λ (h : HeldView). h.lease) c.self.view_is)
     (ap (λ (l : List (RowName × Contents)). row_in (cached l) c.args.name.now) (sym rows) ∙ c.row_mut-row.ensures.row)
-    (c.reindex.ensures.same ∙ ap (λ (l : List (RowName × Contents)). insert_entry row_cmp l c.args.name.now c.write_in-written.new.row) rows)
+    (c.reindex.ensures.same ∙ ap (λ (l : List (RowName × Contents)). insert_entry row_cmp l c.args.name.now c.put-written.new.row) rows)
     (subst (λ (h : HeldView). IsStrictlySortedBy row_cmp (keys_of h.rows)) c.self.view_is c.note-index.ensures.noted.ordered)
-    c.write_in-written.ensures.row
+    c.put-written.ensures.row
 
 -- the reason is by the lease that is held
 pub returns-clause-reason : goal.returns-clause-reason
-returns-clause-reason g c = subst (λ (l : LeaseView). IfErr c.write_in-written.result
-    (HasReason (g.D.Desk.view c.args.desk.now) (g.D.Desk.view c.write_in-written.new.self) l))
-    (ap (λ (h : HeldView). h.lease) c.self.view_is) c.write_in-written.ensures.reason
+returns-clause-reason g c = subst (λ (l : LeaseView). IfErr c.put-written.result
+    (HasReason (g.D.Desk.view c.args.desk.now) (g.D.Desk.view c.put-written.new.self) l))
+    (ap (λ (h : HeldView). h.lease) c.self.view_is) c.put-written.ensures.reason
