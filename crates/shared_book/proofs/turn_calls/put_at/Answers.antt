@@ -1,29 +1,28 @@
-use Rattle.std.proofs.Common.{ap, ◌∙◌, length, refl}
-use Rattle.mw_types.specs.declared.entry.Entry.TheVariants.{Ack}
+use Rattle.std.proofs.Common.{ap, ◌∙◌, length}
 use Rattle.shared_book.specs.FenceLaw.{AreClaimed}
 use Rattle.shared_book.specs.declared.views.View.{View}
 use Rattle.shared_book.specs.Joins.{first_of}
 use Rattle.shared_book.specs.Steps.{SeatView}
 use Rattle.shared_book.specs.Turns.{IsGrown}
-use Rattle.shared_book.proofs.Calls.{use_held, settle_held, lease_own, grown_by, stale_seen, stored_in, as_out, in_after}
-use Rattle.shared_book.proofs.SeatCalls.{arrays-back, arrays-stored}
-use Rattle.shared_book.proofs.turn_calls.settle_at.Goals as goal
+use Rattle.shared_book.proofs.Calls.{use_held, may_held, lease_own, put_entry, grown_by, stale_seen, put_in, as_out, in_after}
+use Rattle.shared_book.proofs.SeatCalls.{arrays-back, arrays-put_at}
+use Rattle.shared_book.proofs.turn_calls.put_at.Goals as goal
 
-pub settle-result-requires-clause-lease : goal.settle-result-requires-clause-lease
-settle-result-requires-clause-lease g c =
+pub put_copy-result-requires-clause-lease : goal.put_copy-result-requires-clause-lease
+put_copy-result-requires-clause-lease g c =
     let o = c.out-core in
     let b = c.of-book in
     use_held c.args.seat.now.place.me.0 o.result b.result c.args.shared.now.case.now o.ensures.core b.ensures.core b.ensures.case
     c.requires.here.case c.args.lease.now c.len-front.result c.args.name.now c.requires.turn.claimed
     (c.len-front.ensures.count ∙ ap length c.history.ensures.history) c.requires.lease
 
-pub settle-result-requires-clause-id : goal.settle-result-requires-clause-id
-settle-result-requires-clause-id g c =
+pub put_copy-result-requires-clause-may : goal.put_copy-result-requires-clause-may
+put_copy-result-requires-clause-may g c =
     let o = c.out-core in
     let b = c.of-book in
-    settle_held c.args.seat.now.place.me.0 o.result b.result c.args.shared.now.case.now o.ensures.core b.ensures.core b.ensures.case
-    c.requires.here.case c.len-front.result c.args.row.now c.args.id
-    (c.len-front.ensures.count ∙ ap length c.history.ensures.history) c.requires.id
+    may_held c.args.seat.now.place.me.0 o.result b.result c.args.shared.now.case.now o.ensures.core b.ensures.core b.ensures.case
+    c.requires.here.case c.len-front.result c.args.name.now c.args.row.now c.args.writing
+    (c.len-front.ensures.count ∙ ap length c.history.ensures.history) c.requires.may
 
 pub append-requires-clause-grown : goal.append-requires-clause-grown
 append-requires-clause-grown g c =
@@ -32,38 +31,37 @@ append-requires-clause-grown g c =
     let b = c.of-book in
     let i = c.into_core-core in
     let k = c.in-Ok.ensures in
-    let entry = Ack c.args.lease.now.seq c.args.name.now c.args.id in
+    let e = put_entry b.result.case b.result.rows b.result.history c.put_copy-result.new.self.history c.args.lease.now c.args.name.now
+    c.args.writing c.args.row.now c.in-Ok.written k.put in
     as_out c.args.seat.now.place.me o.new.place.me (λ u. IsGrown u i.result.1) o.ensures.view
     (grown_by v o.result b.result c.args.shared.now.case.now o.ensures.core b.ensures.core b.ensures.case c.requires.here.case
-    c.settle-result.new.self i.result.1 i.result.0.now c.requires.turn.claimed k.same k.keeper_fault.later i.ensures.core
-    i.ensures.case i.ensures.lawful entry k.written.appended
-    (lease_own v c.args.lease.now entry c.requires.lease.held refl))
+    c.put_copy-result.new.self i.result.1 i.result.0.now c.requires.turn.claimed k.same k.keeper_fault.later i.ensures.core
+    i.ensures.case i.ensures.lawful e.entry e.appended (lease_own v c.args.lease.now e.entry c.requires.lease.held e.carries))
 
 pub back-requires-clause-claimed : goal.back-requires-clause-claimed
 back-requires-clause-claimed g c =
     as_out c.args.seat.now.place.me c.out-core.new.place.me (λ u. AreClaimed u.front u.leases) c.out-core.ensures.view
     c.requires.turn.claimed
 
-pub returns-in-Ok-clause-written : goal.returns-in-Ok-clause-written
-returns-in-Ok-clause-written g c =
+pub returns-in-Ok-clause-put : goal.returns-in-Ok-clause-put
+returns-in-Ok-clause-put g c =
     let v = c.args.seat.now.place.me.0 in
     let o = c.out-core in
     let b = c.of-book in
     let i = c.into_core-core in
     let k = c.in-Ok.ensures in
-    let entry = Ack c.args.lease.now.seq c.args.name.now c.args.id in
-    stored_in v o.result b.result c.args.shared.now.case.now o.ensures.core b.ensures.core b.ensures.case c.requires.here.case
-    c.settle-result.new.self i.result.1 i.result.0.now c.requires.turn.claimed k.same k.keeper_fault.later i.ensures.core
-    i.ensures.case i.ensures.lawful c.append.new.place.me.0 c.args.lease.now c.args.name.now entry c.args.row.now
+    put_in v o.result b.result c.args.shared.now.case.now o.ensures.core b.ensures.core b.ensures.case c.requires.here.case
+    c.put_copy-result.new.self i.result.1 i.result.0.now c.requires.turn.claimed k.same k.keeper_fault.later i.ensures.core
+    i.ensures.case i.ensures.lawful c.append.new.place.me.0 c.args.lease.now c.args.name.now c.args.writing c.args.row.now
     c.in-Ok.written (in_after c.args.seat.now.place.me o.new.place.me c.append.new.place.me i.result.1 o.ensures.view c.append.ensures.view)
-    k.found k.written
+    k.found k.put
 
 pub returns-in-Err-clause-stale : goal.returns-in-Err-clause-stale
 returns-in-Err-clause-stale g c =
     let o = c.out-core in
     let b = c.of-book in
     stale_seen c.args.seat.now.place.me.0 o.result b.result c.args.shared.now.case.now o.ensures.core b.ensures.core b.ensures.case
-    c.requires.here.case c.args.lease.now c.settle-result.result _ c.in-Err.is c.settle-result.ensures.stale
+    c.requires.here.case c.args.lease.now c.put_copy-result.result _ c.in-Err.is c.put_copy-result.ensures.stale
 
 pub invariant_of-seat : goal.invariant_of-seat
 invariant_of-seat g c =
@@ -73,14 +71,13 @@ invariant_of-seat g c =
     let b = c.of-book in
     let i = c.into_core-core in
     let k = c.in-Ok.ensures in
-    let entry = Ack c.args.lease.now.seq c.args.name.now c.args.id in
     let is = in_after p.place.me o.new.place.me c.append.new.place.me i.result.1 o.ensures.view c.append.ensures.view in
-    let has = arrays-stored v c.append.new.place.me.0 p.settled p.marks p.claims p.inputs c.args.lease.now c.args.name.now entry c.args.row.now c.in-Ok.written refl
-    (stored_in v o.result b.result c.args.shared.now.case.now o.ensures.core b.ensures.core b.ensures.case c.requires.here.case
-    c.settle-result.new.self i.result.1 i.result.0.now c.requires.turn.claimed k.same k.keeper_fault.later i.ensures.core
-    i.ensures.case i.ensures.lawful c.append.new.place.me.0 c.args.lease.now c.args.name.now entry c.args.row.now
+    let has = arrays-put_at v c.append.new.place.me.0 p.settled p.marks p.claims p.inputs c.args.lease.now c.args.name.now c.args.writing c.args.row.now c.in-Ok.written
+    (put_in v o.result b.result c.args.shared.now.case.now o.ensures.core b.ensures.core b.ensures.case c.requires.here.case
+    c.put_copy-result.new.self i.result.1 i.result.0.now c.requires.turn.claimed k.same k.keeper_fault.later i.ensures.core
+    i.ensures.case i.ensures.lawful c.append.new.place.me.0 c.args.lease.now c.args.name.now c.args.writing c.args.row.now
     c.in-Ok.written (in_after c.args.seat.now.place.me o.new.place.me c.append.new.place.me i.result.1 o.ensures.view c.append.ensures.view)
-    k.found k.written)
+    k.found k.put)
     (record { loaded = p.loaded; claimed = p.claimed; fed = p.fed; long = p.long; there = p.there; current = p.current }) in
     record {
       numbered = ap first_of (ap (λ (u : View). u.numbers) is) ∙ p.numbered;
