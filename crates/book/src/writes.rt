@@ -55,7 +55,8 @@ impl<'a, K: Keeper> Book<'a, K> {
         ensures unchanged { OnErr result (HasStayed self.old self.new) }
         ensures same { IsSameBook self.old self.new }
     {
-        self.put_copy(alloc, lease, front, name, row, Writing::Propose { proposal })
+        let writing = Writing::Propose { proposal };
+        self.put_copy(alloc, lease, front, name, row, writing)
     }
 
     /// A sender learns that what it made was handled: the row no longer waits for the id.
@@ -86,7 +87,8 @@ impl<'a, K: Keeper> Book<'a, K> {
         ensures unchanged { OnErr result (HasStayed self.old self.new) }
         ensures same { IsSameBook self.old self.new }
     {
-        self.put_copy(alloc, lease, front, name, row, Writing::Settle { id })
+        let writing = Writing::Settle { id };
+        self.put_copy(alloc, lease, front, name, row, writing)
     }
 
     /// A row forgets the ids of records that are finished: those below the floor.
@@ -117,7 +119,8 @@ impl<'a, K: Keeper> Book<'a, K> {
         ensures unchanged { OnErr result (HasStayed self.old self.new) }
         ensures same { IsSameBook self.old self.new }
     {
-        self.put_copy(alloc, lease, front, name, row, Writing::Purge { floor })
+        let writing = Writing::Purge { floor };
+        self.put_copy(alloc, lease, front, name, row, writing)
     }
 
     /// Writes into a row where it lies: appends one entry, and stores what it leaves of the row. Answers

@@ -56,7 +56,8 @@ impl Holdings {
         ensures loan { D.loan desk.new ≡ D.loan desk.old }
         ensures home { D.home desk.new ≡ D.home desk.old }
     {
-        self.put(alloc, desk, case, interval, name, Writing::Propose { proposal })
+        let writing = Writing::Propose { proposal };
+        self.put(alloc, desk, case, interval, name, writing)
     }
 
     /// A sender learns that what it made was handled: the row no longer waits for the id. Answers
@@ -94,7 +95,8 @@ impl Holdings {
         ensures loan { D.loan desk.new ≡ D.loan desk.old }
         ensures home { D.home desk.new ≡ D.home desk.old }
     {
-        self.put(alloc, desk, case, interval, name, Writing::Settle { id })
+        let writing = Writing::Settle { id };
+        self.put(alloc, desk, case, interval, name, writing)
     }
 
     /// A row forgets the ids of records that are finished: those below the floor. Answers the
@@ -132,7 +134,8 @@ impl Holdings {
         ensures loan { D.loan desk.new ≡ D.loan desk.old }
         ensures home { D.home desk.new ≡ D.home desk.old }
     {
-        self.put(alloc, desk, case, interval, name, Writing::Purge { floor })
+        let writing = Writing::Purge { floor };
+        self.put(alloc, desk, case, interval, name, writing)
     }
 
     /// Writes into a row: appends one entry, and what the entry leaves of the row is held. Answers the

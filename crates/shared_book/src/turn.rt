@@ -147,7 +147,8 @@ impl<'s, 'a, K: Keeper> Turn<'s, 'a, K> {
             self.new.seat.now.place.me.0 ≡ self.old.seat.now.place.me.0) }
     {
         let shared = self.shared;
-        put_at(alloc, shared, self.seat, lease, name, row, Writing::Propose { proposal })
+        let writing = Writing::Propose { proposal };
+        put_at(alloc, shared, self.seat, lease, name, row, writing)
     }
 
     /// A sender learns, under a lease of the seat, that what it made was handled: the row no longer
@@ -189,7 +190,8 @@ impl<'s, 'a, K: Keeper> Turn<'s, 'a, K> {
             self.new.seat.now.place.me.0 ≡ self.old.seat.now.place.me.0) }
     {
         let shared = self.shared;
-        put_at(alloc, shared, self.seat, lease, name, row, Writing::Settle { id })
+        let writing = Writing::Settle { id };
+        put_at(alloc, shared, self.seat, lease, name, row, writing)
     }
 
     /// A row forgets, under a lease of the seat, the ids of records that are finished: those below
@@ -231,7 +233,8 @@ impl<'s, 'a, K: Keeper> Turn<'s, 'a, K> {
             self.new.seat.now.place.me.0 ≡ self.old.seat.now.place.me.0) }
     {
         let shared = self.shared;
-        put_at(alloc, shared, self.seat, lease, name, row, Writing::Purge { floor })
+        let writing = Writing::Purge { floor };
+        put_at(alloc, shared, self.seat, lease, name, row, writing)
     }
 
     /// How much work is left, as on a book.
