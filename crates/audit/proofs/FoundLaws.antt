@@ -1,5 +1,5 @@
 -- What is known of what is found by what is kept.
-use Rattle.run_history.specs.Legal.{record_outcome}
+use Rattle.run_history.specs.Legal.{outcome_of}
 use Rattle.std.proofs.Common.{◌≡◌, ◌∙◌, ◌<◌, ◌≤◌, ◌&&◌, ℕ, Bool, true, false, cond, List, length, refl, sym, ap, subst, arith}
 use Rattle.std.specs.Prelude.{IsNone, IsSome, None, Option, Some, is_none, is_some, nat_le, nat_lt, not, unwrap_or, ◌==◌}
 use Rattle.std.specs.Option.{option_and_then, option_map_or}
@@ -18,7 +18,7 @@ use Rattle.mw_types.specs.declared.entry.Entry.{Entry}
 use Rattle.mw_types.specs.declared.entry.Entry.TheVariants.{Handle}
 use Rattle.mw_types.specs.Outcomes.{EffectsView}
 use Rattle.topology.specs.Shapes.{Shape, injectors_of, kind_of, parts_of}
-use Rattle.computations.specs.Handlers.{has_kind}
+use Rattle.computations.specs.Handlers.{has_kind, OfRecord}
 use Rattle.row_parts.specs.Contents.{Contents, IsId, found_delivery, fresh, is_finished, same_id}
 use Rattle.run_history.specs.Cases.{CaseShape, fresh_of, is_injector, source_of}
 use Rattle.run_history.specs.Fits.{is_cursor_within, is_sent_before, suits_part}
@@ -157,7 +157,7 @@ handling-kept case history kept seq name id effects d follows keeps may found =
       to_row = to_row;
       new = ap (is_finished d.id) row ∙ sym (ap (λ (n : RowName). is_finished d.id (row_of shape run n)) to_row)
           ∙ finished-handled case history d follows.lawful.legal made ∙ not-handled case history d.id d follows own;
-      does = (λ i. record_outcome case name (row i) (sym same i).item) ∙ may.may.does;
+      does = (λ i. outcome_of case name (row i) (OfRecord (sym same i).item)) ∙ may.may.does;
     }
 
 -- ---- an id that is settled

@@ -18,7 +18,7 @@ use Rattle.run_history.specs.Fences.{interval_of, is_claim, last_claim}
 use Rattle.run_history.specs.Finished.{handles, unfinished, work_in}
 use Rattle.book.specs.Senders.{AreSenders}
 use Rattle.history_laws.specs.Writes.{IsLegalAndFenced}
-use Rattle.computations.specs.Parts.{Parts, HasState, part_record, part_timer}
+use Rattle.computations.specs.Parts.{Parts, part_doings}
 use Rattle.node.specs.Works.{IsWorkOf}
 use Rattle.book.specs.declared.proposal.Proposal.{Proposal}
 use Rattle.book.specs.declared.answers.NamedRow.{NamedRow}
@@ -58,7 +58,7 @@ pub record IsFollowed (case : CaseShape) (history : List Entry) : Type 0 where
 
 -- a history that is followed, with the computations of its case and what is kept of it
 pub record IsStanding (case : CaseShape) (parts : Parts) (history : List Entry) (kept : Kept) : Type 0 where
-  pub work : IsWorkOf case.topology (HasState parts) (part_record parts) (part_timer parts)
+  pub work : IsWorkOf case.topology (part_doings parts)
   pub followed : IsFollowed case history
   pub keeps : IsKept case history kept
 

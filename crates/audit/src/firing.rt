@@ -1,6 +1,6 @@
 //! Timers that fire.
 ghost use Rattle.std.specs.Prelude.{◌≡◌, ◌<◌, ◌≤◌, IfOk, Some, get_or, length, map, ◌∷◌, slice_get};
-ghost use Rattle.computations.specs.Parts.{HasState, part_record, part_timer};
+ghost use Rattle.computations.specs.Parts.{part_doings};
 ghost use Rattle.mw_types.specs.declared.TheConstants.{END};
 ghost use Rattle.topology.specs.Shapes.{injectors_of, parts_of};
 ghost use Rattle.run_history.specs.Runs.{row_in, run_of};
@@ -31,8 +31,7 @@ pub(crate) fn firing_of(
     name: &RowName,
     mark: u64,
 ) -> Result<Option<Entry>, NoMemory>
-    requires work { IsWorkOf case.now.topology
-        (HasState work.now) (part_record work.now) (part_timer work.now) }
+    requires work { IsWorkOf case.now.topology (part_doings work.now) }
     requires followed { IsFollowed case.now history.now }
     requires kept { IsKept case.now history.now kept.now }
     ensures { IfOk result (IsChosen case.now history.now (choices.Fire name.now mark)) }
@@ -54,8 +53,7 @@ fn firing_in(
     row: &Row,
     mark: u64,
 ) -> Result<Option<Entry>, NoMemory>
-    requires work { IsWorkOf case.now.topology
-        (HasState work.now) (part_record work.now) (part_timer work.now) }
+    requires work { IsWorkOf case.now.topology (part_doings work.now) }
     requires followed { IsFollowed case.now history.now }
     requires kept { IsKept case.now history.now kept.now }
     requires row { row_in (run_of case.now.topology history.now) name.now ≡ Some row.now }

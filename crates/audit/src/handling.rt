@@ -1,8 +1,9 @@
 //! Records that are handled.
 ghost use Rattle.std.specs.Prelude.{◌≡◌, ◌≤◌, IfOk, Some};
 ghost use Rattle.mw_types.specs.declared.TheConstants.{MAX_STAMP};
-ghost use Rattle.computations.specs.Parts.{HasState, part_record, part_timer};
-ghost use Rattle.run_history.specs.Legal.{record_outcome};
+ghost use Rattle.computations.specs.Parts.{part_doings};
+ghost use Rattle.computations.specs.Handlers.{OfRecord};
+ghost use Rattle.run_history.specs.Legal.{outcome_of};
 ghost use Rattle.row_parts.specs.Contents.{found_delivery};
 ghost use Rattle.run_history.specs.Runs.{cached, row_of, run_of};
 ghost use Rattle.node.specs.Works.{IsStateThere, IsWorkOf};
@@ -27,8 +28,7 @@ pub(crate) fn handling_of(
     kept: &Kept,
     id: RecordId,
 ) -> Result<Option<Entry>, NoMemory>
-    requires work { IsWorkOf case.now.topology
-        (HasState work.now) (part_record work.now) (part_timer work.now) }
+    requires work { IsWorkOf case.now.topology (part_doings work.now) }
     requires followed { IsFollowed case.now history.now }
     requires kept { IsKept case.now history.now kept.now }
     ensures { IfOk result (IsChosen case.now history.now (choices.Handle id)) }
@@ -48,8 +48,7 @@ fn delivered(
     kept: &Kept,
     delivery: &Delivery,
 ) -> Result<Option<Entry>, NoMemory>
-    requires work { IsWorkOf case.now.topology
-        (HasState work.now) (part_record work.now) (part_timer work.now) }
+    requires work { IsWorkOf case.now.topology (part_doings work.now) }
     requires followed { IsFollowed case.now history.now }
     requires kept { IsKept case.now history.now kept.now }
     requires waits { found_delivery delivery.now.id
@@ -79,14 +78,13 @@ fn effects_of(
     rows: &Rows,
     delivery: &Delivery,
 ) -> Result<Effects, NoMemory>
-    requires work { IsWorkOf case.now.topology
-        (HasState work.now) (part_record work.now) (part_timer work.now) }
+    requires work { IsWorkOf case.now.topology (part_doings work.now) }
     requires there { IsStateThere case.now.topology delivery.now.to.part
         (row_of case.now.topology (cached rows.now.entries) delivery.now.to).state }
     requires stamp { delivery.now.item.stamp ≤ MAX_STAMP }
-    ensures { IfOk result (λ effects. record_outcome case.now delivery.now.to
+    ensures { IfOk result (λ effects. outcome_of case.now delivery.now.to
         (row_of case.now.topology (cached rows.now.entries) delivery.now.to)
-        delivery.now.item ≡ Some effects) }
+        (OfRecord delivery.now.item) ≡ Some effects) }
 {
     let name = &delivery.to;
     match rows.get(name) {

@@ -21,7 +21,7 @@ use Rattle.mw_types.specs.declared.entry.Entry.{Entry}
 use Rattle.mw_types.specs.declared.entry.Entry.TheVariants as entries
 use Rattle.mw_types.specs.Outcomes.{EffectsView}
 use Rattle.topology.specs.Shapes.{Shape, kind_of}
-use Rattle.computations.specs.Handlers.{effects_of_record, effects_of_timer, unchanged, outcome_with_timer, outcome_with_record, count_timer, window_due, spike_timer, total_due, is_spike, known_with, due_time, one_more, window_end, counted, held_with, has_kind}
+use Rattle.computations.specs.Handlers.{effects_of, unchanged, outcome_with_timer, outcome_with_record, count_timer, window_due, spike_timer, total_due, is_spike, known_with, due_time, one_more, window_end, counted, held_with, has_kind, OfRecord, OfTimer}
 use Rattle.row_parts.specs.Contents.{Contents, is_finished, cursor_in, found_delivery}
 use Rattle.injector.specs.Sources.{item_at}
 use Rattle.run_history.specs.Cases.{CaseShape, is_injector, source_of, record_of}
@@ -54,7 +54,7 @@ Suits kind o = (has_kind kind o.state ≡ true) × (length o.productions ≤ 8)
 
 -- what a handler leaves of a record
 pub record-suits : (kind : Kind) (key : List ℕ) (state : State) (item : Record) → has_kind kind state ≡ true
-    → Suits kind (effects_of_record kind key state item)
+    → Suits kind (effects_of kind key state (OfRecord item))
 record-suits (kinds.Count size) key (states.Count late windows) item is =
     elim item.late as (λ b. Suits (kinds.Count size) (cond b (unchanged (states.Count (one_more late) windows))
     (let end = window_end size item.stamp in outcome_with_timer (states.Count late (counted windows end)) end item))) [
@@ -80,7 +80,7 @@ record-suits kinds.Pass key (states.Spike late held known) item is = absurd cc
 
 -- what a handler leaves of a timer
 pub timer-suits : (kind : Kind) (key : List ℕ) (state : State) (timer : Timer) → has_kind kind state ≡ true
-    → Suits kind (effects_of_timer kind key state timer)
+    → Suits kind (effects_of kind key state (OfTimer timer))
 timer-suits (kinds.Count size) key (states.Count late windows) timer is =
     elim (window_due windows timer) as (λ o. Suits (kinds.Count size) (count_timer key late windows o)) [
       | None ↦ (refl, omega arith)
@@ -193,7 +193,7 @@ pub handling-suits : (case : CaseShape) (n : ℕ) (name : RowName) (row : Conten
     → IsHandling case name row delivery effects → (kind : Kind) ×
     ((kind_of case.topology name.part ≡ Some kind) × ((has_kind kind effects.state ≡ true) × (length effects.productions ≤ 8)))
 handling-suits case n name row delivery effects fit handling =
-    let of = was_some (λ (kind : Kind). effects_of_record kind name.key row.state delivery.item)
+    let of = was_some (λ (kind : Kind). effects_of kind name.key row.state (OfRecord delivery.item))
     (kind_of case.topology name.part) effects handling.does in
     let suits = record-suits of.0 name.key row.state delivery.item
     (sym (suits-computation case name.part row of.0 of.1) ∙ (fits-parts case n name row fit).0) in
@@ -205,7 +205,7 @@ pub firing-suits : (case : CaseShape) (n : ℕ) (name : RowName) (row : Contents
     → IsFiring case name row timer effects → (kind : Kind) ×
     ((kind_of case.topology name.part ≡ Some kind) × ((has_kind kind effects.state ≡ true) × (length effects.productions ≤ 8)))
 firing-suits case n name row timer effects fit firing =
-    let of = was_some (λ (kind : Kind). effects_of_timer kind name.key row.state timer)
+    let of = was_some (λ (kind : Kind). effects_of kind name.key row.state (OfTimer timer))
     (kind_of case.topology name.part) effects firing.does in
     let suits = timer-suits of.0 name.key row.state timer
     (sym (suits-computation case name.part row of.0 of.1) ∙ (fits-parts case n name row fit).0) in
@@ -279,7 +279,7 @@ next-handled book lease front name row left delivery effects lawful uses seen la
           (sym (λ i. is_finished delivery.id (row_of shape (run_of shape first) (sym handling.to_row i)))
           ∙ sym (ap (is_finished delivery.id) row-is) ∙ handling.new);
       to_row = handling.to_row;
-      does = sym (ap (λ (c : Contents). option_map (λ (kind : Kind). effects_of_record kind name.key c.state delivery.item)
+      does = sym (ap (λ (c : Contents). option_map (λ (kind : Kind). effects_of kind name.key c.state (OfRecord delivery.item))
           (kind_of shape name.part)) row-is) ∙ handling.does;
     }))
     (told-then book.rows (λ _. found_delivery delivery.id (run_of shape first).made ≡ Some delivery) _ made
@@ -320,7 +320,7 @@ next-fired book lease front name row left timer mark effects lawful uses seen la
       least_timer = sym (ap (λ (c : Contents). slice_get c.timers 0) row-is) ∙ firing.least;
       due = p.1.due;
       under_watermark = p.1.under_watermark;
-      does = sym (ap (λ (c : Contents). option_map (λ (kind : Kind). effects_of_timer kind name.key c.state timer)
+      does = sym (ap (λ (c : Contents). option_map (λ (kind : Kind). effects_of kind name.key c.state (OfTimer timer))
           (kind_of shape name.part)) row-is) ∙ firing.does;
     }))
     (told-then book.rows (HoldsRowsOf book.case book.history) _ lawful.held

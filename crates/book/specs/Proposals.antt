@@ -16,7 +16,8 @@ use Rattle.row_parts.specs.Contents.{Contents, IsId, is_finished, cursor_in, fou
 use Rattle.run_history.specs.Cases.{CaseShape, is_injector, source_of, record_of}
 use Rattle.run_history.specs.Made.{productions_of, late_cause, deliveries_made}
 use Rattle.run_history.specs.Runs.{Run, written_row}
-use Rattle.run_history.specs.Legal.{record_outcome, timer_outcome}
+use Rattle.computations.specs.Handlers.{OfRecord, OfTimer}
+use Rattle.run_history.specs.Legal.{outcome_of}
 use Rattle.run_history.specs.Watermarks.{low_watermark}
 use Rattle.book.specs.Books.{LeaseView}
 use Rattle.book.specs.Answers.{IsWritten}
@@ -40,13 +41,13 @@ pub record IsHandling (case : CaseShape) (name : RowName) (row : Contents) (deli
   pub id : IsId delivery.id
   pub to_row : delivery.to ≡ name
   pub new : is_finished delivery.id row ≡ false
-  pub does : record_outcome case name row delivery.item ≡ Some effects
+  pub does : outcome_of case name row (OfRecord delivery.item) ≡ Some effects
 
 -- the row's least timer, with what its computation's handler leaves of it
 pub record IsFiring (case : CaseShape) (name : RowName) (row : Contents) (timer : Timer)
     (effects : EffectsView) : Type 0 where
   pub least : slice_get row.timers 0 ≡ Some timer
-  pub does : timer_outcome case name row timer ≡ Some effects
+  pub does : outcome_of case name row (OfTimer timer) ≡ Some effects
 
 -- the proposal is one of these
 abbrev pub IsProposable : CaseShape → RowName → Contents → Proposal → Type 0

@@ -1,6 +1,6 @@
 -- What holds of the elements of a list holds after one is entered, and the list still ascends:
 -- lemmas for the laws.
-use Rattle.std.proofs.Common.{◌≡◌, ℕ, suc, ◌<◌, ◌≤◌, List, [], ◌∷◌, length, map, filter, cond, Bool, true}
+use Rattle.std.proofs.Common.{◌≡◌, ℕ, suc, ◌<◌, ◌≤◌, ◌+◌, List, [], ◌∷◌, length, map, filter, cond, Bool, true}
 use Rattle.std.proofs.Common.{false, refl, sym, ap, subst, arith, All}
 use Rattle.std.specs.List.{AllByRecursion}
 use Rattle.std.specs.List.Sorted.{IsStrictlySortedBy}
@@ -29,6 +29,18 @@ module _ {X : Type 0} (number : X → ℕ) (x : X) (change : X → X) where
       All P (entered number x change ys)
   All-entered P px stays ys all =
       All-from_recursion P _ (entered-recursion P px stays ys (recursion_from_All P ys all))
+
+  -- a list with one element entered has at most one more
+  pub length-entered : (ys : List X) → length (entered number x change ys) ≤ length ys + 1
+  length-entered [] = omega arith
+  length-entered (y ∷ ys) =
+      elim (nat_cmp (number x) (number y)) as (λ o. length
+      (match_ordering o (x ∷ y ∷ ys) (change y ∷ ys) (y ∷ entered number x change ys))
+      ≤ length (y ∷ ys) + 1) [
+        | Less ↦ omega arith
+        | Equal ↦ omega arith
+        | Greater ↦ omega (arith, length-entered ys)
+      ]
 
   -- each number is below those after it
   abbrev Ascends : List X → Type 0

@@ -22,6 +22,26 @@ use Rattle.mw_types.specs.declared.record.Production.{Production}
 use Rattle.mw_types.specs.declared.timer.Timer.{Timer}
 use Rattle.mw_types.specs.Outcomes.{EffectsView}
 
+-- what a handler is called for: a record, or a timer that fires
+pub data Cause : Type 0 where
+  OfRecord : Record → Cause
+  OfTimer : Timer → Cause
+
+-- the timestamp of a cause
+abbrev pub stamp_of : Cause → ℕ
+stamp_of (OfRecord item) = item.stamp
+stamp_of (OfTimer timer) = timer.time
+
+-- whether a cause is late
+abbrev pub is_late_cause : Cause → Bool
+is_late_cause (OfRecord item) = item.late
+is_late_cause (OfTimer timer) = timer.late
+
+-- whether a cause is a record
+abbrev pub is_record : Cause → Bool
+is_record (OfRecord item) = true
+is_record (OfTimer timer) = false
+
 -- the state with which a row begins: no late record, no open window, no held total and no known one
 abbrev pub fresh_state : Kind → State
 fresh_state (kinds.Count size) = states.Count 0 []
@@ -145,19 +165,15 @@ pass_record late item =
     let state = states.Pass (if item.late then one_more late else late) in
     outcome_with_record state item.key item.stamp item.value
 
--- what a part of this kind leaves of a record, by its row's key and state
-abbrev pub effects_of_record : Kind → List ℕ → State → Record → EffectsView
-effects_of_record (kinds.Count size) key (states.Count late windows) item =
+-- what a part of this kind leaves of a cause, by its row's key and state
+abbrev pub effects_of : Kind → List ℕ → State → Cause → EffectsView
+effects_of (kinds.Count size) key (states.Count late windows) (OfRecord item) =
     count_record size late windows item
-effects_of_record (kinds.Spike last times) key (states.Spike late held known) item =
-    spike_record late held known item
-effects_of_record kinds.Pass key (states.Pass late) item = pass_record late item
-effects_of_record _ _ state _ = unchanged state
-
--- what a part of this kind leaves of a timer, by its row's key and state
-abbrev pub effects_of_timer : Kind → List ℕ → State → Timer → EffectsView
-effects_of_timer (kinds.Count size) key (states.Count late windows) timer =
+effects_of (kinds.Count size) key (states.Count late windows) (OfTimer timer) =
     count_timer key late windows (window_due windows timer)
-effects_of_timer (kinds.Spike last times) key (states.Spike late held known) timer =
+effects_of (kinds.Spike last times) key (states.Spike late held known) (OfRecord item) =
+    spike_record late held known item
+effects_of (kinds.Spike last times) key (states.Spike late held known) (OfTimer timer) =
     spike_timer last times key late held known (total_due held timer)
-effects_of_timer _ _ state _ = unchanged state
+effects_of kinds.Pass key (states.Pass late) (OfRecord item) = pass_record late item
+effects_of _ _ state _ = unchanged state

@@ -1,11 +1,11 @@
 -- A handler at work: what it was given, and what it has set and produced. Own.
-use Rattle.std.specs.Prelude.{ℕ, ◌≤◌, Bool, true, false, List, [], All}
+use Rattle.std.specs.Prelude.{ℕ, ◌≤◌, Bool, List, [], All}
 use Rattle.mw_types.specs.declared.TheConstants.{MAX_STAMP}
 use Rattle.mw_types.specs.declared.state.State.{State}
-use Rattle.mw_types.specs.declared.record.Record.{Record}
 use Rattle.mw_types.specs.declared.record.Production.{Production}
 use Rattle.mw_types.specs.declared.timer.Timer.{Timer}
 use Rattle.mw_types.specs.Outcomes.{EffectsView}
+use Rattle.computations.specs.Handlers.{Cause, stamp_of, is_late_cause, is_record}
 
 -- the row's key and state, the cause's timestamp, whether it is late and a record, and what was made so far
 pub record Handling : Type 0 where
@@ -17,33 +17,21 @@ pub record Handling : Type 0 where
   pub timers : List Timer
   pub productions : List Production
 
--- a handler that begins with a record has made nothing yet
-abbrev pub begun_by_record : List ℕ → State → Record → Handling
-begun_by_record key state item = record {
+-- a handler that begins has made nothing yet
+abbrev pub begun_by : List ℕ → State → Cause → Handling
+begun_by key state cause = record {
   key = key;
   state = state;
-  stamp = item.stamp;
-  late = item.late;
-  of_record = true;
-  timers = [];
-  productions = [];
-}
-
--- a handler that begins with a timer has made nothing yet
-abbrev pub begun_by_timer : List ℕ → State → Timer → Handling
-begun_by_timer key state timer = record {
-  key = key;
-  state = state;
-  stamp = timer.time;
-  late = timer.late;
-  of_record = false;
+  stamp = stamp_of cause;
+  late = is_late_cause cause;
+  of_record = is_record cause;
   timers = [];
   productions = [];
 }
 
 -- what the handler leaves if it ends here
-abbrev pub outcome_of : Handling → EffectsView
-outcome_of h = record { state = h.state; timers = h.timers; productions = h.productions }
+abbrev pub effects_made : Handling → EffectsView
+effects_made h = record { state = h.state; timers = h.timers; productions = h.productions }
 
 -- the handler, where it ends with this outcome
 abbrev pub ended_with : Handling → EffectsView → Handling

@@ -6,4 +6,6 @@ pub mod Lending
 pub mod Places
 pub mod Entering
 pub mod Bounded
+pub mod Leaving
+pub mod LeavingLaws
 pub mod HandlerLaws

@@ -4,11 +4,10 @@ use Rattle.std.specs.Prelude.{List, slice_get, Option, None, Some}
 use Rattle.std.specs.Option.{option_map_or}
 use Rattle.mw_types.specs.declared.kind.Kind.{Kind}
 use Rattle.mw_types.specs.declared.state.State.{State}
-use Rattle.mw_types.specs.declared.record.Record.{Record}
-use Rattle.mw_types.specs.declared.timer.Timer.{Timer}
 use Rattle.mw_types.specs.Kinds.{IsKind}
 use Rattle.mw_types.specs.Outcomes.{EffectsView}
-use Rattle.computations.specs.Handlers.{has_kind, unchanged, effects_of_record, effects_of_timer}
+use Rattle.computations.specs.Handlers.{Cause, has_kind, unchanged, effects_of}
+use Rattle.computations.specs.Laws.{Doings}
 
 -- the parts by number: so many injectors, and then the computations, by kind
 pub record Parts : Type 0 where
@@ -25,12 +24,11 @@ abbrev pub HasState : Parts → ℕ → State → Type 0
 HasState parts part state =
     (kind : Kind) × (kind_at parts part ≡ Some kind) × IsKind kind × (has_kind kind state ≡ true)
 
--- what a part leaves of a record; a part that is no computation changes nothing
-abbrev pub part_record : Parts → ℕ → List ℕ → State → Record → EffectsView
-part_record parts part key state item =
-    option_map_or (λ kind. effects_of_record kind key state item) (kind_at parts part) (unchanged state)
+-- what a part leaves of a cause; a part that is no computation changes nothing
+abbrev pub part_effects : Parts → ℕ → List ℕ → State → Cause → EffectsView
+part_effects parts part key state cause =
+    option_map_or (λ kind. effects_of kind key state cause) (kind_at parts part) (unchanged state)
 
--- what a part leaves of a timer; a part that is no computation changes nothing
-abbrev pub part_timer : Parts → ℕ → List ℕ → State → Timer → EffectsView
-part_timer parts part key state timer =
-    option_map_or (λ kind. effects_of_timer kind key state timer) (kind_at parts part) (unchanged state)
+-- what the handlers of these parts do
+abbrev pub part_doings : Parts → Doings
+part_doings parts = record { has = HasState parts; gives = part_effects parts }

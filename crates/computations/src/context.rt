@@ -2,7 +2,8 @@
 ghost use Rattle.std.specs.Prelude.{◌≡◌, ◌<◌, ◌≤◌, ◌++◌, ◌∷◌, [], length, IfOk, OnErr, OnOk, IsTrue};
 ghost use Rattle.std.specs.Borrow.{sem};
 ghost use Rattle.mw_types.specs.Bounds.{IsWithin};
-ghost use Rattle.computations.specs.Handlings.{begun_by_record, begun_by_timer, outcome_of};
+ghost use Rattle.computations.specs.Handlers.{OfRecord, OfTimer};
+ghost use Rattle.computations.specs.Handlings.{begun_by, effects_made};
 
 use mw_types::{
     Duplicate, Effects, Key, MAX_STAMP, NoMemory, Production, ProductionList, Record, State, Timer,
@@ -51,7 +52,7 @@ impl Context {
         state: &State,
         item: &Record,
     ) -> Result<Context, NoMemory>
-        ensures { IfOk result (λ context. context ≡ begun_by_record key.now state.now item.now) }
+        ensures { IfOk result (λ context. context ≡ begun_by key.now state.now (OfRecord item.now)) }
     {
         Ok(Context {
             key: key.copy(alloc)?,
@@ -71,7 +72,7 @@ impl Context {
         state: &State,
         timer: &Timer,
     ) -> Result<Context, NoMemory>
-        ensures { IfOk result (λ context. context ≡ begun_by_timer key.now state.now timer.now) }
+        ensures { IfOk result (λ context. context ≡ begun_by key.now state.now (OfTimer timer.now)) }
     {
         Ok(Context {
             key: key.copy(alloc)?,
@@ -160,7 +161,7 @@ impl Context {
     /// What the handler leaves.
     pub fn into_effects(self) -> Effects
         requires { IsWithin self.state }
-        ensures { result ≡ outcome_of self }
+        ensures { result ≡ effects_made self }
     {
         let Context {
             key: _,

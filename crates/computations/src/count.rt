@@ -5,8 +5,9 @@ ghost use Rattle.std.specs.Ordering.{nat_cmp};
 ghost use Rattle.mw_types.specs.declared.kind.Kind.TheVariants as kinds;
 ghost use Rattle.mw_types.specs.declared.state.Window.{Window};
 ghost use Rattle.mw_types.specs.Bounds.{IsWithin, AreWindows};
-ghost use Rattle.computations.specs.Handlers.{one_more, window_end, counted, effects_of_record, effects_of_timer};
-ghost use Rattle.computations.specs.Handlings.{begun_by_record, begun_by_timer, ended_with};
+ghost use Rattle.computations.specs.Handlers.{one_more, window_end, counted, effects_of};
+ghost use Rattle.computations.specs.Handlers.{OfRecord, OfTimer};
+ghost use Rattle.computations.specs.Handlings.{begun_by, ended_with};
 ghost use Rattle.computations.specs.Places.{IsPlace, IsGap, IsBetween};
 
 use crate::context::Context;
@@ -36,12 +37,12 @@ impl Numbered for Window {
 
 // The handler of records of a count with windows of this size.
 pub(crate) fn on_record(context: &mut Context, size: u64, item: &Record) -> Result<(), NoMemory>
-    requires made { context.old ≡ begun_by_record context.old.key context.old.state item.now }
+    requires made { context.old ≡ begun_by context.old.key context.old.state (OfRecord item.now) }
     requires size { (1 ≤ size) × (size ≤ 2 ^ 40) }
     requires within { IsWithin context.old.state }
     requires in_time { item.now.stamp ≤ MAX_STAMP }
     ensures effects { let kind = kinds.Count size in
-        let o = effects_of_record kind context.old.key context.old.state item.now in
+        let o = effects_of kind context.old.key context.old.state (OfRecord item.now) in
         OnOk result (context.new ≡ ended_with context.old o) }
     ensures within { OnOk result (IsWithin context.new.state) }
 {
@@ -59,11 +60,11 @@ pub(crate) fn on_record(context: &mut Context, size: u64, item: &Record) -> Resu
 
 // The handler of timers of a count.
 pub(crate) fn on_timer(alloc: Global, context: &mut Context, timer: &Timer) -> Result<(), NoMemory>
-    requires made { context.old ≡ begun_by_timer context.old.key context.old.state timer.now }
+    requires made { context.old ≡ begun_by context.old.key context.old.state (OfTimer timer.now) }
     requires within { IsWithin context.old.state }
     requires in_time { timer.now.time ≤ MAX_STAMP }
     ensures effects { (size : ℕ) →
-        let o = effects_of_timer (kinds.Count size) context.old.key context.old.state timer.now in
+        let o = effects_of (kinds.Count size) context.old.key context.old.state (OfTimer timer.now) in
         OnOk result (context.new ≡ ended_with context.old o) }
     ensures within { OnOk result (IsWithin context.new.state) }
 {

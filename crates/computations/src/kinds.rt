@@ -60,14 +60,10 @@ impl Kinds {
 }
 
 impl Computation for Kinds {
-    ghost use Rattle.computations.specs.Parts.{HasState, part_record, part_timer};
-    ghost use Rattle.computations.specs.HandlerLaws.{part_record-lawful, part_timer-lawful, part_timer-timers};
+    ghost use Rattle.computations.specs.Parts.{part_doings};
+    ghost use Rattle.computations.specs.HandlerLaws.{part-lawful, part-sets_none};
 
-    ghost has = { HasState };
-
-    ghost gives_record = { part_record };
-
-    ghost gives_timer = { part_timer };
+    ghost does = { part_doings };
 
     fn on_record(
         &self,
@@ -97,9 +93,7 @@ impl Computation for Kinds {
         }
     }
 
-    ghost record_lawful = { part_record-lawful };
+    ghost lawful = { part-lawful };
 
-    ghost timer_lawful = { part_timer-lawful };
-
-    ghost timer_sets_none = { part_timer-timers };
+    ghost sets_none = { part-sets_none };
 }

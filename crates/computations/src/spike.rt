@@ -3,8 +3,9 @@ ghost use Rattle.std.specs.Prelude.{ℕ, ℤ, ◌≡◌, ◌==◌, ◌<◌, ◌�
 ghost use Rattle.mw_types.specs.declared.kind.Kind.TheVariants as kinds;
 ghost use Rattle.mw_types.specs.declared.state.HeldTotal.{HeldTotal};
 ghost use Rattle.mw_types.specs.Bounds.{IsWithin, AreHeld};
-ghost use Rattle.computations.specs.Handlers.{due_time, held_with, is_spike, known_with, effects_of_record, effects_of_timer};
-ghost use Rattle.computations.specs.Handlings.{begun_by_record, begun_by_timer, ended_with};
+ghost use Rattle.computations.specs.Handlers.{due_time, held_with, is_spike, known_with, effects_of};
+ghost use Rattle.computations.specs.Handlers.{OfRecord, OfTimer};
+ghost use Rattle.computations.specs.Handlings.{begun_by, ended_with};
 ghost use Rattle.computations.specs.Places.{IsFirstFrom};
 
 use crate::context::Context;
@@ -34,11 +35,11 @@ impl Numbered for HeldTotal {
 
 // The handler of records of a spike.
 pub(crate) fn on_record(context: &mut Context, item: &Record) -> Result<(), NoMemory>
-    requires made { context.old ≡ begun_by_record context.old.key context.old.state item.now }
+    requires made { context.old ≡ begun_by context.old.key context.old.state (OfRecord item.now) }
     requires within { IsWithin context.old.state }
     requires in_time { item.now.stamp ≤ MAX_STAMP }
     ensures effects { (last times : ℕ) → let kind = kinds.Spike last times in
-        let o = effects_of_record kind context.old.key context.old.state item.now in
+        let o = effects_of kind context.old.key context.old.state (OfRecord item.now) in
         OnOk result (context.new ≡ ended_with context.old o) }
     ensures within { OnOk result (IsWithin context.new.state) }
 {
@@ -66,13 +67,13 @@ pub(crate) fn on_timer(
     times: u32,
     timer: &Timer,
 ) -> Result<(), NoMemory>
-    requires made { context.old ≡ begun_by_timer context.old.key context.old.state timer.now }
+    requires made { context.old ≡ begun_by context.old.key context.old.state (OfTimer timer.now) }
     requires last { last ≤ 64 }
     requires times { times ≤ 1000 }
     requires within { IsWithin context.old.state }
     requires in_time { timer.now.time ≤ MAX_STAMP }
     ensures effects { let kind = kinds.Spike last times in
-        let o = effects_of_timer kind context.old.key context.old.state timer.now in
+        let o = effects_of kind context.old.key context.old.state (OfTimer timer.now) in
         OnOk result (context.new ≡ ended_with context.old o) }
     ensures within { OnOk result (IsWithin context.new.state) }
 {

@@ -12,11 +12,11 @@ use Rattle.mw_types.specs.declared.identity.RowName.{RowName}
 use Rattle.mw_types.specs.declared.kind.Kind.{Kind}
 use Rattle.mw_types.specs.declared.timer.Timer.{Timer}
 use Rattle.topology.specs.Shapes.{Shape}
-use Rattle.computations.specs.Handlers.{effects_of_timer}
+use Rattle.computations.specs.Handlers.{effects_of, OfTimer}
 use Rattle.row_parts.specs.Contents.{Contents, fresh}
 use Rattle.run_history.specs.Cases.{CaseShape, fresh_of}
 use Rattle.run_history.specs.Fences.{interval_of}
-use Rattle.run_history.specs.Legal.{timer_outcome}
+use Rattle.run_history.specs.Legal.{outcome_of}
 use Rattle.run_history.specs.Made.{deliveries_made, late_cause}
 use Rattle.run_history.specs.Runs.{cached, row_in, run_of}
 use Rattle.list_lemmas.proofs.Lists.{some_same}
@@ -81,17 +81,17 @@ set-held shape all interval name timer set = ap (λ (o : Option Contents). unwra
 
 -- a handler makes few records of a timer
 pub few-fired : (case : CaseShape) (name : RowName) (row : Contents) (timer : Timer) (effects : EffectsView)
-    → IsStateThere case.topology name.part row.state → timer_outcome case name row timer ≡ Some effects
+    → IsStateThere case.topology name.part row.state → outcome_of case name row (OfTimer timer) ≡ Some effects
     → length effects.productions ≤ 8
 few-fired case name row timer effects there does =
     let kind = there.0 in
-    let same : effects_of_timer kind name.key row.state timer ≡ effects = some_same _ _
-    (sym (ap (option_map (λ (k : Kind). effects_of_timer k name.key row.state timer)) there.1) ∙ does) in
+    let same : effects_of kind name.key row.state (OfTimer timer) ≡ effects = some_same _ _
+    (sym (ap (option_map (λ (k : Kind). effects_of k name.key row.state (OfTimer timer))) there.1) ∙ does) in
     subst (λ (o : EffectsView). length o.productions ≤ 8) same (timer-suits kind name.key row.state timer there.2).1
 
 -- it may be proposed that it fires
 pub fire-proposable : (case : CaseShape) (all : List (Option HeldView)) (interval : ℕ) (name : RowName) (timer : Timer) (mark : ℕ)
-    (effects : EffectsView) (set : IsSetAt case.topology all interval name timer) → timer_outcome case name set.row timer ≡ Some effects
+    (effects : EffectsView) (set : IsSetAt case.topology all interval name timer) → outcome_of case name set.row (OfTimer timer) ≡ Some effects
     → IfSome (held_at all interval) (λ held. IsProposable case name (row_held case.topology held name) (proposals.Fire timer mark effects))
 fire-proposable case all interval name timer mark effects set does =
     subst (λ (o : Option HeldView). IfSome o (λ held. IsProposable case name (row_held case.topology held name)
@@ -171,7 +171,7 @@ firing name timer mark effects held = record {
 -- it may be asked
 pub may-fire : (case : CaseShape) (node : NodeView) (mark interval : ℕ) (name : RowName) (timer : Timer) (effects : EffectsView)
     (set : IsSetAt case.topology node.held interval name timer) → interval_of case.topology name ≡ Some interval
-    → IsNextTimer case.topology node name.part mark name timer → timer_outcome case name set.row timer ≡ Some effects
+    → IsNextTimer case.topology node name.part mark name timer → outcome_of case name set.row (OfTimer timer) ≡ Some effects
     → MayAskFire case node name.part mark (firing name timer mark effects set.held)
 may-fire case node mark interval name timer effects set covers next does =
     let at = held-at-on case.topology node.held name interval next.set.held next.set.there covers in
@@ -180,7 +180,7 @@ may-fire case node mark interval name timer effects set covers next does =
       timer = timer;
       next = next;
       effects = effects;
-      does = subst (λ (r : Contents). timer_outcome case name r timer ≡ Some effects)
+      does = subst (λ (r : Contents). outcome_of case name r (OfTimer timer) ≡ Some effects)
           (sym (ap (λ (h : HeldView). row_held case.topology h name) same
           ∙ set-held case.topology node.held interval name timer set)) does;
       request = ap (firing name timer mark effects) (sym same);

@@ -5,8 +5,8 @@ use Rattle.std.proofs.lemmas.Option.{slice_get-map, slice_get_within, get_or_fro
 use Rattle.mw_types.specs.Kinds.{IsKind}
 use Rattle.mw_types.specs.declared.kind.Kind.{Kind}
 use Rattle.topology.specs.Shapes.{Shape, ComputationShape, injectors_of, kind_of}
-use Rattle.computations.specs.Handlers.{unchanged, effects_of_record, effects_of_timer}
-use Rattle.computations.specs.Parts.{Parts, HasState, kind_at, part_record, part_timer}
+use Rattle.computations.specs.Handlers.{unchanged, effects_of}
+use Rattle.computations.specs.Parts.{Parts, kind_at, part_doings}
 use Rattle.node.specs.Works.{IsWorkOf}
 
 -- the kinds of a topology's computations
@@ -41,15 +41,12 @@ ranged false kinds at kind is all =
 -- the computations of a topology's kinds are work of it
 pub kinds_work : (shape : Shape) (parts : Parts) → parts.injectors ≡ injectors_of shape → parts.kinds ≡ kinds_of shape
     → All IsKind parts.kinds
-    → IsWorkOf shape (HasState parts) (part_record parts) (part_timer parts)
+    → IsWorkOf shape (part_doings parts)
 kinds_work shape parts injectors kinds within = record {
   states = λ part kind state is has.
       let same : kind_at parts part ≡ Some kind = kind_at-of shape parts part injectors kinds ∙ is in
       (kind, same, ranged (nat_lt part parts.injectors) parts.kinds (part - parts.injectors) kind same within, has);
-  records = λ part kind key state item is.
-      ap (λ k. option_map_or (λ kind. effects_of_record kind key state item) k (unchanged state))
-      (kind_at-of shape parts part injectors kinds ∙ is);
-  timers = λ part kind key state timer is.
-      ap (λ k. option_map_or (λ kind. effects_of_timer kind key state timer) k (unchanged state))
+  causes = λ part kind key state cause is.
+      ap (λ k. option_map_or (λ kind. effects_of kind key state cause) k (unchanged state))
       (kind_at-of shape parts part injectors kinds ∙ is);
 }

@@ -11,7 +11,8 @@ use Rattle.mw_types.specs.declared.identity.RowName.{RowName}
 use Rattle.topology.specs.Shapes.{Shape}
 use Rattle.row_parts.specs.Contents.{is_finished}
 use Rattle.run_history.specs.Cases.{CaseShape}
-use Rattle.run_history.specs.Legal.{record_outcome}
+use Rattle.computations.specs.Handlers.{OfRecord}
+use Rattle.run_history.specs.Legal.{outcome_of}
 use Rattle.book.specs.Desks.{DeskView, HasLooked, HasMet, Sight, TellsUnlessAlone}
 use Rattle.book.specs.declared.proposal.Proposal.TheVariants as proposals
 use Rattle.holdings.specs.Holding.{HeldView, held_on, row_held}
@@ -67,7 +68,7 @@ where_free shape node d sender here = option_map_or (received shape node d sende
 -- a node that has prepared a record fits
 pub Fits-new : (case : CaseShape) (desk : DeskView) (node : NodeView) (d : Delivery) (sender : RowName) (effects : EffectsView) (held : HeldView)
     → held_on case.topology node.held d.to ≡ Some held → is_finished d.id (row_held case.topology held d.to) ≡ false
-    → record_outcome case d.to (row_held case.topology held d.to) d.item ≡ Some effects → IsDeliverable case.topology d sender
+    → outcome_of case d.to (row_held case.topology held d.to) (OfRecord d.item) ≡ Some effects → IsDeliverable case.topology d sender
     → Fits case desk node → IsOutgoing case desk (outgoing.Deliver d sender)
     → Fits case desk (record node { prepared = Some (record { sender = sender; proposal = proposals.Handle d effects }) })
 Fits-new case desk node d sender effects held there new does is fits sent = record {

@@ -10,11 +10,11 @@ use Rattle.mw_types.specs.declared.identity.RowName.{RowName}
 use Rattle.mw_types.specs.declared.kind.Kind.{Kind}
 use Rattle.mw_types.specs.declared.record.Record.{Record}
 use Rattle.topology.specs.Shapes.{injectors_of, kind_of}
-use Rattle.computations.specs.Handlers.{effects_of_record, has_kind}
+use Rattle.computations.specs.Handlers.{effects_of, has_kind, OfRecord}
 use Rattle.row_parts.specs.Contents.{Contents}
 use Rattle.run_history.specs.Cases.{CaseShape, is_injector, source_of}
 use Rattle.run_history.specs.Fits.{is_cursor_within, is_sent_before, suits_part}
-use Rattle.run_history.specs.Legal.{record_outcome}
+use Rattle.run_history.specs.Legal.{outcome_of}
 use Rattle.list_lemmas.proofs.Lists.{some_same}
 use Rattle.book.specs.Desks.{DeskView}
 use Rattle.book.proofs.ProposalLaws.{record-suits}
@@ -52,10 +52,10 @@ state-held case desk all name held fit is there =
 
 -- a handler makes few records of a record
 pub few-handled : (case : CaseShape) (name : RowName) (row : Contents) (item : Record) (effects : EffectsView)
-    → IsStateThere case.topology name.part row.state → record_outcome case name row item ≡ Some effects
+    → IsStateThere case.topology name.part row.state → outcome_of case name row (OfRecord item) ≡ Some effects
     → length effects.productions ≤ 8
 few-handled case name row item effects there does =
     let kind = there.0 in
-    let same : effects_of_record kind name.key row.state item ≡ effects = some_same _ _
-    (sym (ap (option_map (λ (k : Kind). effects_of_record k name.key row.state item)) there.1) ∙ does) in
+    let same : effects_of kind name.key row.state (OfRecord item) ≡ effects = some_same _ _
+    (sym (ap (option_map (λ (k : Kind). effects_of k name.key row.state (OfRecord item))) there.1) ∙ does) in
     subst (λ (o : EffectsView). length o.productions ≤ 8) same (record-suits kind name.key row.state item there.2).1

@@ -18,7 +18,8 @@ use Rattle.topology.specs.Shapes.{Shape}
 use Rattle.row_parts.specs.Contents.{cursor_in, found_delivery}
 use Rattle.run_history.specs.Cases.{CaseShape, record_of, source_of}
 use Rattle.run_history.specs.Fences.{interval_of}
-use Rattle.run_history.specs.Legal.{timer_outcome}
+use Rattle.computations.specs.Handlers.{OfTimer}
+use Rattle.run_history.specs.Legal.{outcome_of}
 use Rattle.book.specs.Books.{LeaseView}
 use Rattle.book.specs.declared.proposal.Proposal.{Proposal}
 use Rattle.book.specs.declared.proposal.Proposal.TheVariants as proposals
@@ -123,7 +124,7 @@ pub record MayAskFire (case : CaseShape) (node : NodeView) (part mark : ℕ) (as
   pub next : IsNextTimer case.topology node part mark name timer
   pub effects : EffectsView
   pub does : let row = row_held case.topology next.set.held name in
-      timer_outcome case name row timer ≡ Some effects
+      outcome_of case name row (OfTimer timer) ≡ Some effects
   pub request : let lease = next.set.held.lease in asked ≡ record {
     lease = lease;
     name = name;

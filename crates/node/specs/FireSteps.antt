@@ -9,7 +9,8 @@ use Rattle.key_intervals.specs.declared.bounds.Bounds.{Bounds}
 use Rattle.topology.specs.Shapes.{Shape}
 use Rattle.row_parts.specs.Contents.{Contents}
 use Rattle.run_history.specs.Cases.{CaseShape}
-use Rattle.run_history.specs.Legal.{timer_outcome}
+use Rattle.computations.specs.Handlers.{OfTimer}
+use Rattle.run_history.specs.Legal.{outcome_of}
 use Rattle.run_history.specs.Runs.{cached, row_in}
 use Rattle.book.specs.Books.{LeaseView}
 use Rattle.book.specs.Desking.{HasWritten}
@@ -101,7 +102,7 @@ pub record IsSetAt (shape : Shape) (all : List (Option HeldView)) (interval : �
 -- a handler left these effects of a timer of a row that is held of an interval
 abbrev pub IsLeftByHandler : CaseShape → List (Option HeldView) → ℕ → RowName → Timer → EffectsView → Type 0
 IsLeftByHandler case all interval name timer effects = (set : IsSetAt case.topology all interval name timer) →
-    timer_outcome case name set.row timer ≡ Some effects
+    outcome_of case name set.row (OfTimer timer) ≡ Some effects
 
 -- a timer's firing on a row that is held, as the desk answered it
 abbrev pub HoldsFire : Shape → DeskView → DeskView → ℕ → RowName → Timer → ℕ → EffectsView → ℕ →

@@ -1,27 +1,19 @@
 -- What a worker asks of the computations that are handed in: each does what the kind of its part does. Own.
 use Rattle.std.specs.Prelude.{◌≡◌, ℕ, true, List, Option, Some}
-use Rattle.computations.specs.Handlers.{effects_of_record, effects_of_timer, has_kind}
-use Rattle.mw_types.specs.Outcomes.{EffectsView}
+use Rattle.computations.specs.Handlers.{Cause, effects_of, has_kind}
+use Rattle.computations.specs.Laws.{Doings}
 use Rattle.mw_types.specs.declared.identity.RowName.{RowName}
 use Rattle.mw_types.specs.declared.kind.Kind.{Kind}
-use Rattle.mw_types.specs.declared.record.Record.{Record}
 use Rattle.mw_types.specs.declared.state.State.{State}
-use Rattle.mw_types.specs.declared.timer.Timer.{Timer}
 use Rattle.topology.specs.Shapes.{Shape, kind_of}
 use Rattle.holdings.specs.Holding.{HeldView, held_on, row_held}
 
--- each computation has the states of its kind, and does with a record and with a timer what its kind does
-pub record IsWorkOf (shape : Shape) (has : ℕ → State → Type 0)
-    (gives_record : ℕ → List ℕ → State → Record → EffectsView)
-    (gives_timer : ℕ → List ℕ → State → Timer → EffectsView) : Type 0 where
+-- each computation has the states of its kind, and leaves of a cause what its kind leaves
+pub record IsWorkOf (shape : Shape) (does : Doings) : Type 0 where
   pub states : (part : ℕ) (kind : Kind) (state : State) → kind_of shape part ≡ Some kind →
-      has_kind kind state ≡ true → has part state
-  pub records : (part : ℕ) (kind : Kind) (key : List ℕ) (state : State) (item : Record) →
-      kind_of shape part ≡ Some kind → gives_record part key state item
-      ≡ effects_of_record kind key state item
-  pub timers : (part : ℕ) (kind : Kind) (key : List ℕ) (state : State) (timer : Timer) →
-      kind_of shape part ≡ Some kind → gives_timer part key state timer
-      ≡ effects_of_timer kind key state timer
+      has_kind kind state ≡ true → does.has part state
+  pub causes : (part : ℕ) (kind : Kind) (key : List ℕ) (state : State) (cause : Cause) →
+      kind_of shape part ≡ Some kind → does.gives part key state cause ≡ effects_of kind key state cause
 
 -- a part is a computation, and its rows may have the state
 abbrev pub IsStateThere : Shape → ℕ → State → Type 0

@@ -44,8 +44,7 @@ impl<N: Seen> Node<N> {
         part: u32,
     ) -> Result<Outcome, NodeFault>
         requires fits { Fits case.now (D.view desk.old) self.old }
-        requires work { IsWorkOf case.now.topology (C.has work.now)
-            (C.gives_record work.now) (C.gives_timer work.now) }
+        requires work { IsWorkOf case.now.topology (C.does work.now) }
         requires part { IsComputation case.now.topology part }
 
         ensures fits { Fits case.now (D.view desk.new) self.new }
@@ -106,8 +105,7 @@ impl<N: Seen> Node<N> {
         mark: u64,
     ) -> Result<Outcome, NodeFault>
         requires fits { Fits case.now (D.view desk.old) self.old }
-        requires work { IsWorkOf case.now.topology (C.has work.now)
-            (C.gives_record work.now) (C.gives_timer work.now) }
+        requires work { IsWorkOf case.now.topology (C.does work.now) }
         requires part { IsComputation case.now.topology found.now.name.part }
         requires next { IsNextTimer case.now.topology self.old found.now.name.part mark
             found.now.name found.now.timer }
@@ -218,8 +216,7 @@ pub fn effects_of<C: Computation>(
     interval: u32,
     found: &RowTimer,
 ) -> Result<Effects, NoMemory>
-    requires work { IsWorkOf case.now.topology (C.has work.now)
-        (C.gives_record work.now) (C.gives_timer work.now) }
+    requires work { IsWorkOf case.now.topology (C.does work.now) }
     requires set { IsSetAt case.now.topology held.now interval found.now.name found.now.timer }
     ensures does { IfOk result
         (IsLeftByHandler case.now held.now interval found.now.name found.now.timer) }

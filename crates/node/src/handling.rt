@@ -1,7 +1,8 @@
 //! What a computation leaves of a record or of a timer.
 ghost use Rattle.std.specs.Prelude.{◌≡◌, ◌≤◌, IfOk, Some, slice_get};
 ghost use Rattle.mw_types.specs.declared.TheConstants.{MAX_STAMP};
-ghost use Rattle.run_history.specs.Legal.{record_outcome, timer_outcome};
+ghost use Rattle.computations.specs.Handlers.{OfRecord, OfTimer};
+ghost use Rattle.run_history.specs.Legal.{outcome_of};
 ghost use Rattle.node.specs.Works.{IsStateThere, IsWorkOf};
 
 use computations::{Computation, Context};
@@ -20,12 +21,11 @@ pub fn handled<C: Computation>(
     row: &Row,
     item: &Record,
 ) -> Result<Effects, NoMemory>
-    requires work { IsWorkOf case.now.topology (C.has work.now)
-        (C.gives_record work.now) (C.gives_timer work.now) }
+    requires work { IsWorkOf case.now.topology (C.does work.now) }
     requires there { IsStateThere case.now.topology name.now.part row.now.state }
     requires stamp { item.now.stamp ≤ MAX_STAMP }
     ensures does { IfOk result (λ effects.
-        record_outcome case.now name.now row.now item.now ≡ Some effects) }
+        outcome_of case.now name.now row.now (OfRecord item.now) ≡ Some effects) }
 {
     let mut context = Context::for_record(alloc, &name.key, &row.state, item)?;
     match work.on_record(alloc, name.part, &mut context, item) {
@@ -46,12 +46,11 @@ pub fn fired<C: Computation>(
     row: &Row,
     timer: &Timer,
 ) -> Result<Effects, NoMemory>
-    requires work { IsWorkOf case.now.topology (C.has work.now)
-        (C.gives_record work.now) (C.gives_timer work.now) }
+    requires work { IsWorkOf case.now.topology (C.does work.now) }
     requires there { IsStateThere case.now.topology name.now.part row.now.state }
     requires first { slice_get row.now.timers 0 ≡ Some timer.now }
     ensures does { IfOk result (λ effects.
-        timer_outcome case.now name.now row.now timer.now ≡ Some effects) }
+        outcome_of case.now name.now row.now (OfTimer timer.now) ≡ Some effects) }
 {
     let mut context = Context::for_timer(alloc, &name.key, &row.state, timer)?;
     match work.on_timer(alloc, name.part, &mut context, timer) {

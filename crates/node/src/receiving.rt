@@ -3,7 +3,8 @@ ghost use Rattle.std.specs.Prelude.{◌≡◌, ◌≤◌, ◌++◌, ◌∷◌, [
 ghost use Rattle.mw_types.specs.declared.TheConstants.{MAX_STAMP};
 ghost use Rattle.topology.specs.Shapes.{Shape};
 ghost use Rattle.row_parts.specs.Contents.{is_finished};
-ghost use Rattle.run_history.specs.Legal.{record_outcome};
+ghost use Rattle.computations.specs.Handlers.{OfRecord};
+ghost use Rattle.run_history.specs.Legal.{outcome_of};
 ghost use Rattle.book.specs.Desks.{DeskView, HasLooked, IsSound, KeepsMarks};
 ghost use Rattle.book.specs.declared.proposal.Proposal.TheVariants as proposals;
 ghost use Rattle.holdings.specs.Holding.{row_held};
@@ -44,8 +45,7 @@ impl<N: Seen> Node<N> {
         message: Message<N>,
     ) -> Result<Outcome, NodeFault>
         requires fits { Fits case.now (D.view desk.old) self.old }
-        requires work { IsWorkOf case.now.topology (C.has work.now)
-            (C.gives_record work.now) (C.gives_timer work.now) }
+        requires work { IsWorkOf case.now.topology (C.does work.now) }
         requires record { IsDeliver (outgoing_of message) }
         requires addressed { IsAddressed case.now.topology (outgoing_of message) }
         requires known { N.book (note_of message) ≡ (D.home desk.old).book }
@@ -90,8 +90,7 @@ impl<N: Seen> Node<N> {
         delivery: Delivery,
         sender: RowName,
     ) -> Result<Outcome, NodeFault>
-        requires work { IsWorkOf case.now.topology (C.has work.now)
-            (C.gives_record work.now) (C.gives_timer work.now) }
+        requires work { IsWorkOf case.now.topology (C.does work.now) }
         requires deliverable { IsDeliverable case.now.topology delivery sender }
         requires states { HasStates case.now.topology self.old.held delivery.to }
 
@@ -175,14 +174,13 @@ fn handled_on<C: Computation>(
     held: &Held,
     delivery: &Delivery,
 ) -> Result<Effects, NoMemory>
-    requires work { IsWorkOf case.now.topology (C.has work.now)
-        (C.gives_record work.now) (C.gives_timer work.now) }
+    requires work { IsWorkOf case.now.topology (C.does work.now) }
     requires there { IsStateThere case.now.topology delivery.now.to.part
         (row_held case.now.topology held.now delivery.now.to).state }
     requires stamp { delivery.now.item.stamp ≤ MAX_STAMP }
     ensures does { let row = row_held case.now.topology held.now delivery.now.to in
         IfOk result (λ effects.
-        record_outcome case.now delivery.now.to row delivery.now.item ≡ Some effects) }
+        outcome_of case.now delivery.now.to row (OfRecord delivery.now.item) ≡ Some effects) }
 {
     let name = &delivery.to;
     match held.row(name) {

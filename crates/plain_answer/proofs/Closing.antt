@@ -25,7 +25,7 @@ use Rattle.mw_types.specs.declared.entry.Entry.TheVariants.{Claim, Inject, Handl
 use Rattle.mw_types.specs.Orders.{row_cmp}
 use Rattle.mw_types.specs.Outcomes.{EffectsView}
 use Rattle.topology.specs.Shapes.{Shape, kind_of}
-use Rattle.computations.specs.Handlers.{window_end, window_due, count_timer, unchanged, outcome_with_timer, counted, one_more, effects_of_record, effects_of_timer}
+use Rattle.computations.specs.Handlers.{window_end, window_due, count_timer, unchanged, outcome_with_timer, counted, one_more, effects_of, OfRecord, OfTimer}
 use Rattle.row_parts.specs.Contents.{found_delivery}
 use Rattle.run_history.specs.Cases.{CaseShape}
 use Rattle.run_history.specs.Inputs.{IsRunnable}
@@ -168,7 +168,7 @@ closed-fired size key end time deeds =
 
 -- a count produces nothing of a record
 pub record-nothing : (size : ℕ) (key : List ℕ) (state : State) (item : Record)
-    → (effects_of_record (kinds.Count size) key state item).productions ≡ []
+    → (effects_of (kinds.Count size) key state (OfRecord item)).productions ≡ []
 record-nothing size key (states.Count late windows) item =
     elim item.late as (λ b. (cond b (unchanged (states.Count (one_more late) windows))
     (outcome_with_timer (states.Count late (counted windows (window_end size item.stamp)))
@@ -182,7 +182,7 @@ record-nothing size key (states.Pass late) item = refl
 
 -- and of a timer only under its row's key
 timer-key : (size : ℕ) (key : List ℕ) (state : State) (timer : Timer)
-    → AllByRecursion (λ (p : Production). p.key ≡ key) (effects_of_timer (kinds.Count size) key state timer).productions
+    → AllByRecursion (λ (p : Production). p.key ≡ key) (effects_of (kinds.Count size) key state (OfTimer timer)).productions
 timer-key size key (states.Count late windows) timer = by_due (window_due windows timer)
   where
     by_due : (due : Option Window) → AllByRecursion (λ (p : Production). p.key ≡ key) (count_timer key late windows due).productions

@@ -18,7 +18,7 @@ use Rattle.mw_types.specs.Orders.{row_cmp}
 use Rattle.mw_types.specs.Outcomes.{EffectsView}
 use Rattle.mw_types.proofs.OrderLaws.{row_cmp-total}
 use Rattle.topology.specs.Shapes.{Shape, kind_of}
-use Rattle.computations.specs.Handlers.{fresh_state, one_more, unchanged, outcome_with_timer, counted, count_record, count_timer, window_due, window_end, effects_of_record, effects_of_timer}
+use Rattle.computations.specs.Handlers.{fresh_state, one_more, unchanged, outcome_with_timer, counted, count_record, count_timer, window_due, window_end, effects_of, OfRecord, OfTimer}
 use Rattle.computations.specs.HandlerLaws.{find-passes}
 use Rattle.row_parts.specs.Contents.{found_delivery}
 use Rattle.run_history.specs.Cases.{CaseShape}
@@ -129,11 +129,11 @@ module _ (case : CaseShape) (name : RowName) (size : ℕ) (kind : kind_of case.t
       let entry : Entry = Handle seq name id effects in
       let ws : List Window = windows_after size s.deeds in
       let item : Record = may.delivery.item in
-      let does : effects_of_record (kinds.Count size) name.key (row_of shape s.run name).state item ≡ effects =
-      some_same _ effects (sym (ap (option_map (λ k. effects_of_record k name.key (row_of shape s.run name).state item)) kind)
+      let does : effects_of (kinds.Count size) name.key (row_of shape s.run name).state (OfRecord item) ≡ effects =
+      some_same _ effects (sym (ap (option_map (λ k. effects_of k name.key (row_of shape s.run name).state (OfRecord item))) kind)
       ∙ may.does) in
       let left : count_record size has.late ws item ≡ effects =
-      sym (ap (λ st. effects_of_record (kinds.Count size) name.key st item) has.is) ∙ does in
+      sym (ap (λ st. effects_of (kinds.Count size) name.key st (OfRecord item)) has.is) ∙ does in
       let state = record-state size has.late ws item in
       let here : (row_of shape (followed shape s.run entry) name).state ≡ effects.state =
       ap (λ c. c.state) (row_of-here shape s.run entry name refl) in
@@ -147,11 +147,11 @@ module _ (case : CaseShape) (name : RowName) (size : ℕ) (kind : kind_of case.t
   fires s seq timer mark effects has may =
       let entry : Entry = Fire seq name timer mark effects in
       let ws : List Window = windows_after size s.deeds in
-      let does : effects_of_timer (kinds.Count size) name.key (row_of shape s.run name).state timer ≡ effects =
-      some_same _ effects (sym (ap (option_map (λ k. effects_of_timer k name.key (row_of shape s.run name).state timer)) kind)
+      let does : effects_of (kinds.Count size) name.key (row_of shape s.run name).state (OfTimer timer) ≡ effects =
+      some_same _ effects (sym (ap (option_map (λ k. effects_of k name.key (row_of shape s.run name).state (OfTimer timer))) kind)
       ∙ may.does) in
       let left : count_timer name.key has.late ws (window_due ws timer) ≡ effects =
-      sym (ap (λ st. effects_of_timer (kinds.Count size) name.key st timer) has.is) ∙ does in
+      sym (ap (λ st. effects_of (kinds.Count size) name.key st (OfTimer timer)) has.is) ∙ does in
       let here : (row_of shape (followed shape s.run entry) name).state ≡ effects.state =
       ap (λ c. c.state) (row_of-here shape s.run entry name refl) in
       let ds : List Deed = cond (timer.tag == 0) (fired timer.time ∷ []) [] in

@@ -6,7 +6,7 @@ use Rattle.mw_types.specs.declared.entry.Entry.{Entry}
 use Rattle.mw_types.specs.declared.entry.Entry.TheVariants.{Inject, Handle, Fire, Ack}
 use Rattle.mw_types.specs.Outcomes.{EffectsView}
 use Rattle.topology.specs.Shapes.{Shape, kind_of}
-use Rattle.computations.specs.Handlers.{window_due, count_timer, effects_of_timer}
+use Rattle.computations.specs.Handlers.{window_due, count_timer, effects_of, OfTimer}
 use Rattle.run_history.specs.Cases.{CaseShape}
 use Rattle.run_history.specs.Made.{produced, late_cause}
 use Rattle.run_history.specs.Runs.{Run, run_of, row_of}
@@ -60,7 +60,7 @@ module _ (case : CaseShape) (part size : ℕ) (kind : kind_of case.topology part
             let set = each-at (IsSet ws) (row_of shape run row).timers 0 timer (legal-set case row size of h legal) may.least_timer in
             let counts = count-windows case row size of h legal in
             let left : count_timer row.key counts.0 ws (window_due ws timer) ≡ effects =
-            sym (ap (λ st. effects_of_timer (kinds.Count size) row.key st timer) counts.1)
+            sym (ap (λ st. effects_of (kinds.Count size) row.key st (OfTimer timer)) counts.1)
             ∙ timer-left case run row timer mark effects (kinds.Count size) may of in
             let found = found-window timer.time ws set.2 in
             let due : window_due ws timer ≡ Some found.0 =

@@ -23,7 +23,7 @@ use Rattle.topology.specs.declared.subscription.Subscription.{Subscription}
 use Rattle.topology.specs.Shapes.{Shape, parts_of, injectors_of, consumers_of, feeds_of, kind_of}
 use Rattle.topology.specs.Rules.{IsTopology}
 use Rattle.row_parts.specs.Contents.{Contents, same_id, is_timer}
-use Rattle.computations.specs.Handlers.{unchanged, outcome_with_timer, outcome_with_record, one_more, window_end, due_time, counted, held_with, count_timer, window_due, spike_timer, total_due, is_spike, known_with, effects_of_record, effects_of_timer}
+use Rattle.computations.specs.Handlers.{unchanged, outcome_with_timer, outcome_with_record, one_more, window_end, due_time, counted, held_with, count_timer, window_due, spike_timer, total_due, is_spike, known_with, effects_of, OfRecord, OfTimer}
 use Rattle.run_history.specs.Cases.{CaseShape, source_of}
 use Rattle.run_history.specs.Made.{row_written, deliveries_of, deliveries_made}
 use Rattle.run_history.specs.Runs.{Run, run_of, row_of, followed, changed, still_unhandled}
@@ -51,7 +51,7 @@ record IsNear (stamp : ℕ) (o : EffectsView) : Type 0 where
 
 -- of a record
 record-near : (kind : Kind) (key : List ℕ) (state : State) (item : Record) → IsKind kind
-    → IsNear item.stamp (effects_of_record kind key state item)
+    → IsNear item.stamp (effects_of kind key state (OfRecord item))
 record-near (kinds.Count size) key (states.Count late windows) item ranged =
     let end : ℕ = window_end size item.stamp in
     let near : end ≤ item.stamp + 2 ^ 40 = omega (arith, ranged.1) in
@@ -102,7 +102,7 @@ spike-by last times key late time held known (Some due) ends =
     ]
 
 -- of a timer, whatever the kind
-timer-by : (kind : Kind) (key : List ℕ) (state : State) (timer : Timer) → AreBy timer.time (effects_of_timer kind key state timer)
+timer-by : (kind : Kind) (key : List ℕ) (state : State) (timer : Timer) → AreBy timer.time (effects_of kind key state (OfTimer timer))
 timer-by (kinds.Count size) key (states.Count late windows) timer = count-by key late timer.time windows (window_due windows timer)
     (window_due-time windows timer)
 timer-by (kinds.Count size) key (states.Injector cursor) timer = tt
@@ -158,7 +158,7 @@ module _ (case : CaseShape) (runs : IsRunnable case) where
       sent-graded shape part (record { key = item.key; stamp = item.stamp; value = item.value } ∷ []) item.late run.next runs.topology
       (omega (arith, within)) (omega (arith, input), tt)
   entry-near run (Handle seq row id effects) graded may =
-      let kind = was_some (λ (kind : Kind). effects_of_record kind row.key (row_of shape run row).state may.delivery.item)
+      let kind = was_some (λ (kind : Kind). effects_of kind row.key (row_of shape run row).state (OfRecord may.delivery.item))
       (kind_of shape row.part) effects may.does in
       let stamp : may.delivery.item.stamp ≤ grade may.delivery.to.part = find-each IsGraded
       (λ (d : Delivery). same_id d.id id) run.unhandled may.delivery graded.waiting may.waits in
@@ -171,7 +171,7 @@ module _ (case : CaseShape) (runs : IsRunnable case) where
       (each-weaker (λ (p : Production). p.stamp ≤ may.delivery.item.stamp + 2 ^ 40) (λ (p : Production). p.stamp ≤ grade row.part + 2 ^ 40)
       (λ p low. omega (arith, low, here)) effects.productions near.productions)
   entry-near run (Fire seq row timer mark effects) graded may =
-      let kind = was_some (λ (kind : Kind). effects_of_timer kind row.key (row_of shape run row).state timer)
+      let kind = was_some (λ (kind : Kind). effects_of kind row.key (row_of shape run row).state (OfTimer timer))
       (kind_of shape row.part) effects may.does in
       let due : timer.time ≤ grade row.part + 2 ^ 40 = each-at (IsDueBy row.part) (row_of shape run row).timers 0 timer
       (graded.timers row) may.least_timer in
@@ -187,7 +187,7 @@ module _ (case : CaseShape) (runs : IsRunnable case) where
       → AllByRecursion (IsDueBy name.part) (changed entry sent (row_of shape run name)).timers
   timers-near run (Handle seq row id effects) sent name graded may here =
       let same : row ≡ name = some_same row name here in
-      let kind = was_some (λ (kind : Kind). effects_of_record kind row.key (row_of shape run row).state may.delivery.item)
+      let kind = was_some (λ (kind : Kind). effects_of kind row.key (row_of shape run row).state (OfRecord may.delivery.item))
       (kind_of shape row.part) effects may.does in
       let stamp : may.delivery.item.stamp ≤ grade may.delivery.to.part = find-each IsGraded
       (λ (d : Delivery). same_id d.id id) run.unhandled may.delivery graded.waiting may.waits in

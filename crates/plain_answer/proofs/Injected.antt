@@ -14,7 +14,7 @@ use Rattle.mw_types.specs.declared.entry.Entry.TheVariants.{Claim, Inject, Handl
 use Rattle.injector.specs.Sources.{SourceLine}
 use Rattle.topology.specs.Shapes.{Shape, ComputationShape, kind_of, injectors_of}
 use Rattle.row_parts.specs.Contents.{Contents, cursor_in}
-use Rattle.computations.specs.Handlers.{fresh_state, effects_of_record, effects_of_timer}
+use Rattle.computations.specs.Handlers.{fresh_state, effects_of, OfRecord, OfTimer}
 use Rattle.run_history.specs.Cases.{CaseShape, is_injector, source_of, record_of}
 use Rattle.run_history.specs.Made.{row_written}
 use Rattle.run_history.specs.Runs.{Run, run_of, row_of, followed, advanced}
@@ -115,11 +115,11 @@ module _ (case : CaseShape) (part : ℕ) (is : is_injector case.topology part �
         | false ↦ λ e. elsewhere h (Inject seq other line item) (record { part = other; key = [] }) was refl e
       ] refl
   step h (Handle seq row id effects) legal may was =
-      let kind = was_some (λ (kind : Kind). effects_of_record kind row.key (row_of shape (run_of shape h) row).state may.delivery.item)
+      let kind = was_some (λ (kind : Kind). effects_of kind row.key (row_of shape (run_of shape h) row).state (OfRecord may.delivery.item))
       (kind_of shape row.part) effects may.does in
       elsewhere h (Handle seq row id effects) row was refl (injector-apart shape part row.part kind.0 is kind.1)
   step h (Fire seq row timer mark effects) legal may was =
-      let kind = was_some (λ (kind : Kind). effects_of_timer kind row.key (row_of shape (run_of shape h) row).state timer)
+      let kind = was_some (λ (kind : Kind). effects_of kind row.key (row_of shape (run_of shape h) row).state (OfTimer timer))
       (kind_of shape row.part) effects may.does in
       elsewhere h (Fire seq row timer mark effects) row was refl (injector-apart shape part row.part kind.0 is kind.1)
   step h (Ack seq row id) legal may was =

@@ -13,7 +13,7 @@ use Rattle.mw_types.specs.declared.entry.Entry.{Entry}
 use Rattle.mw_types.specs.declared.entry.Entry.TheVariants.{Claim, Inject, Handle, Fire, Ack, Purge}
 use Rattle.injector.specs.Sources.{Source, SourceLine}
 use Rattle.topology.specs.Shapes.{Shape, ComputationShape, injectors_of, kind_of}
-use Rattle.computations.specs.Handlers.{effects_of_record, effects_of_timer}
+use Rattle.computations.specs.Handlers.{effects_of, OfRecord, OfTimer}
 use Rattle.run_history.specs.Cases.{CaseShape, record_of}
 use Rattle.run_history.specs.Inputs.{IsRunnable}
 use Rattle.run_history.specs.Made.{late_cause, produced}
@@ -117,7 +117,7 @@ done-placed case = along_legal case (λ h. AllByRecursion (IsPlaced case.topolog
   where
     new : (run : Run) (entry : Entry) → MayFollow case run entry → AllByRecursion (IsPlaced case.topology) (handled_by run entry)
     new run (Handle seq row id effects) may =
-        let kind = was_some (λ (kind : Kind). effects_of_record kind row.key (row_of case.topology run row).state may.delivery.item)
+        let kind = was_some (λ (kind : Kind). effects_of kind row.key (row_of case.topology run row).state (OfRecord may.delivery.item))
         (kind_of case.topology row.part) effects may.does in
         subst (λ o. AllByRecursion (IsPlaced case.topology) (option_to_list o)) (sym may.waits)
         (kind-placed case.topology may.delivery.to.part kind.0 (ap (λ (r : RowName). kind_of case.topology r.part) may.to_row ∙ kind.1), tt)
@@ -158,7 +158,7 @@ fires-placed case = along_legal case
         → when (is_fire entry) 1 ≡ total (λ (c : ℕ × ComputationShape). fires_on c.0 entry)
         (enumerate_from (injectors_of case.topology) case.topology.computations)
     one run (Fire seq row timer mark effects) may =
-        let kind = was_some (λ (kind : Kind). effects_of_timer kind row.key (row_of case.topology run row).state timer)
+        let kind = was_some (λ (kind : Kind). effects_of kind row.key (row_of case.topology run row).state (OfTimer timer))
         (kind_of case.topology row.part) effects may.does in
         sym (kind-placed case.topology row.part kind.0 kind.1)
     one run _ may = none (enumerate_from (injectors_of case.topology) case.topology.computations)
@@ -208,11 +208,11 @@ injected-total case f = along_legal case
         let none : f item ≡ f item + 0 = omega arith in
         none ∙ sym (ap (λ b. when b (f item) + 0) is)
     one run (Handle seq row id effects) may =
-        let kind = was_some (λ (kind : Kind). effects_of_record kind row.key (row_of case.topology run row).state may.delivery.item)
+        let kind = was_some (λ (kind : Kind). effects_of kind row.key (row_of case.topology run row).state (OfRecord may.delivery.item))
         (kind_of case.topology row.part) effects may.does in
         produces row.part (late_cause run.made (Handle seq row id effects)) effects.productions (no-injector row.part kind.0 kind.1)
     one run (Fire seq row timer mark effects) may =
-        let kind = was_some (λ (kind : Kind). effects_of_timer kind row.key (row_of case.topology run row).state timer)
+        let kind = was_some (λ (kind : Kind). effects_of kind row.key (row_of case.topology run row).state (OfTimer timer))
         (kind_of case.topology row.part) effects may.does in
         produces row.part timer.late effects.productions (no-injector row.part kind.0 kind.1)
     one run _ may = refl

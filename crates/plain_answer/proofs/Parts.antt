@@ -17,7 +17,7 @@ use Rattle.mw_types.specs.declared.entry.Entry.TheVariants.{Inject, Handle, Fire
 use Rattle.topology.specs.declared.subscription.Subscription.{Subscription}
 use Rattle.topology.specs.Shapes.{Shape, ComputationShape, injectors_of, parts_of, consumers_of, feeds_of, kind_of}
 use Rattle.injector.specs.Sources.{SourceLine}
-use Rattle.computations.specs.Handlers.{effects_of_record, effects_of_timer}
+use Rattle.computations.specs.Handlers.{effects_of, OfRecord, OfTimer}
 use Rattle.row_parts.specs.Contents.{cursor_in}
 use Rattle.run_history.specs.Cases.{CaseShape, is_injector, source_of, record_of}
 use Rattle.run_history.specs.Inputs.{IsRunnable}
@@ -108,11 +108,11 @@ entry-there : (case : CaseShape) (run : Run) (entry : Entry) → MayFollow case 
 entry-there case run (Inject seq part line item) may =
     let less = ltb-true part (injectors_of case.topology) may.injector in (omega (arith, less), tt)
 entry-there case run (Handle seq row id effects) may =
-    let kind = was_some (λ (kind : Kind). effects_of_record kind row.key (row_of case.topology run row).state may.delivery.item)
+    let kind = was_some (λ (kind : Kind). effects_of kind row.key (row_of case.topology run row).state (OfRecord may.delivery.item))
     (kind_of case.topology row.part) effects may.does in
     added-there case.topology run (Handle seq row id effects) row refl (kind-there case.topology row.part kind.0 kind.1)
 entry-there case run (Fire seq row timer mark effects) may =
-    let kind = was_some (λ (kind : Kind). effects_of_timer kind row.key (row_of case.topology run row).state timer)
+    let kind = was_some (λ (kind : Kind). effects_of kind row.key (row_of case.topology run row).state (OfTimer timer))
     (kind_of case.topology row.part) effects may.does in
     added-there case.topology run (Fire seq row timer mark effects) row refl (kind-there case.topology row.part kind.0 kind.1)
 entry-there case run _ may = tt

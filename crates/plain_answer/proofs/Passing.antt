@@ -18,7 +18,7 @@ use Rattle.mw_types.specs.declared.entry.Entry.TheVariants.{Inject, Handle, Fire
 use Rattle.mw_types.specs.Outcomes.{EffectsView}
 use Rattle.topology.specs.Shapes.{Shape, kind_of}
 use Rattle.row_parts.specs.Contents.{Contents}
-use Rattle.computations.specs.Handlers.{has_kind, effects_of_record, effects_of_timer}
+use Rattle.computations.specs.Handlers.{has_kind, effects_of, OfRecord, OfTimer}
 use Rattle.run_history.specs.Cases.{CaseShape}
 use Rattle.run_history.specs.Made.{row_written, produced}
 use Rattle.run_history.specs.Runs.{Run, run_of, row_of, changed}
@@ -55,27 +55,27 @@ kind-at shape part own kind of e = let same : own ≡ part = grind (arith, nat_t
 -- what a handler of this kind left of a record
 pub record-left : (case : CaseShape) (run : Run) (row : RowName) (id : RecordId) (effects : EffectsView) (kind : Kind)
     → (may : MayHandle case run row id effects) → kind_of case.topology row.part ≡ Some kind
-    → effects_of_record kind row.key (row_of case.topology run row).state may.delivery.item ≡ effects
+    → effects_of kind row.key (row_of case.topology run row).state (OfRecord may.delivery.item) ≡ effects
 record-left case run row id effects kind may of = some_same _ effects
-    (sym (ap (option_map (λ k. effects_of_record k row.key (row_of case.topology run row).state may.delivery.item)) of) ∙ may.does)
+    (sym (ap (option_map (λ k. effects_of k row.key (row_of case.topology run row).state (OfRecord may.delivery.item))) of) ∙ may.does)
 
 -- and of a timer
 pub timer-left : (case : CaseShape) (run : Run) (row : RowName) (timer : Timer) (mark : ℕ) (effects : EffectsView) (kind : Kind)
     → MayFire case run row timer mark effects → kind_of case.topology row.part ≡ Some kind
-    → effects_of_timer kind row.key (row_of case.topology run row).state timer ≡ effects
+    → effects_of kind row.key (row_of case.topology run row).state (OfTimer timer) ≡ effects
 timer-left case run row timer mark effects kind may of = some_same _ effects
-    (sym (ap (option_map (λ k. effects_of_timer k row.key (row_of case.topology run row).state timer)) of) ∙ may.does)
+    (sym (ap (option_map (λ k. effects_of k row.key (row_of case.topology run row).state (OfTimer timer))) of) ∙ may.does)
 
 -- a pass produces the record again
 pass-productions : (key : List ℕ) (state : State) (item : Record) → has_kind kinds.Pass state ≡ true
-    → (effects_of_record kinds.Pass key state item).productions ≡ record { key = item.key; stamp = item.stamp; value = item.value } ∷ []
+    → (effects_of kinds.Pass key state (OfRecord item)).productions ≡ record { key = item.key; stamp = item.stamp; value = item.value } ∷ []
 pass-productions key (states.Pass late) item is = refl
 pass-productions key (states.Injector cursor) item is = absurd cc
 pass-productions key (states.Count late windows) item is = absurd cc
 pass-productions key (states.Spike late held known) item is = absurd cc
 
 -- a pass sets no timer
-pass-timers : (key : List ℕ) (state : State) (item : Record) → (effects_of_record kinds.Pass key state item).timers ≡ []
+pass-timers : (key : List ℕ) (state : State) (item : Record) → (effects_of kinds.Pass key state (OfRecord item)).timers ≡ []
 pass-timers key (states.Pass late) item = refl
 pass-timers key (states.Injector cursor) item = refl
 pass-timers key (states.Count late windows) item = refl

@@ -17,7 +17,7 @@ use Rattle.mw_types.specs.declared.entry.Entry.TheVariants.{Claim, Inject, Handl
 use Rattle.mw_types.specs.Outcomes.{EffectsView}
 use Rattle.topology.specs.Shapes.{Shape, kind_of}
 use Rattle.row_parts.specs.Contents.{is_timer, without_timer, set_again, found_delivery}
-use Rattle.computations.specs.Handlers.{one_more, unchanged, outcome_with_timer, counted, count_record, window_end, effects_of_record}
+use Rattle.computations.specs.Handlers.{one_more, unchanged, outcome_with_timer, counted, count_record, window_end, effects_of, OfRecord}
 use Rattle.run_history.specs.Cases.{CaseShape}
 use Rattle.run_history.specs.Made.{row_written}
 use Rattle.run_history.specs.Runs.{Run, run_of, row_of, followed, with_timers}
@@ -165,7 +165,7 @@ module _ (case : CaseShape) (name : RowName) (size : ℕ) (kind : kind_of case.t
       let item : Record = may.delivery.item in
       let counts = count-windows case name size kind h legal in
       let left : count_record size counts.0 ws item ≡ effects =
-      sym (ap (λ st. effects_of_record (kinds.Count size) name.key st item) counts.1)
+      sym (ap (λ st. effects_of (kinds.Count size) name.key st (OfRecord item)) counts.1)
       ∙ record-left case run name id effects (kinds.Count size) may kind in
       let takes : deeds_in name run entry ≡ took item.stamp item.late ∷ [] =
       ap (λ b. cond b (taken (found_delivery id run.unhandled)) []) (tie name) ∙ ap taken may.waits in

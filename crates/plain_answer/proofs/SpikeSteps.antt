@@ -17,7 +17,7 @@ use Rattle.mw_types.specs.declared.timer.Timer.{Timer}
 use Rattle.mw_types.specs.declared.delivery.Delivery.{Delivery}
 use Rattle.mw_types.specs.Orders.{row_cmp}
 use Rattle.mw_types.specs.Outcomes.{EffectsView}
-use Rattle.computations.specs.Handlers.{one_more, due_time, held_with, spike_record, spike_timer, total_due, is_spike, known_with, unchanged, outcome_with_timer, outcome_with_record, effects_of_record, effects_of_timer}
+use Rattle.computations.specs.Handlers.{one_more, due_time, held_with, spike_record, spike_timer, total_due, is_spike, known_with, unchanged, outcome_with_timer, outcome_with_record, effects_of, OfRecord, OfTimer}
 use Rattle.run_history.specs.Made.{produced}
 use Rattle.plain_answer.specs.Plain.{sum_of_last, spike_at}
 use Rattle.plain_answer.specs.Places.{with_place}
@@ -27,7 +27,7 @@ use Rattle.plain_answer.proofs.Places.{held_timer, Climb, AreLow, first-total, l
 
 -- a spike produces nothing of a record
 pub spike-nothing : (last times : ℕ) (key : List ℕ) (state : State) (item : Record)
-    → (effects_of_record (kinds.Spike last times) key state item).productions ≡ []
+    → (effects_of (kinds.Spike last times) key state (OfRecord item)).productions ≡ []
 spike-nothing last times key (states.Spike late held known) item =
     elim item.late as (λ b. (cond b (unchanged (states.Spike (one_more late) held known))
     (outcome_with_timer (states.Spike late (held_with held item.stamp item.value) known) (due_time item.stamp) item)).productions ≡ []) [
@@ -40,7 +40,7 @@ spike-nothing last times key (states.Pass late) item = refl
 
 -- and of a timer only under its row's key
 pub spike-key : (last times : ℕ) (key : List ℕ) (state : State) (timer : Timer)
-    → AllByRecursion (λ (p : Production). p.key ≡ key) (effects_of_timer (kinds.Spike last times) key state timer).productions
+    → AllByRecursion (λ (p : Production). p.key ≡ key) (effects_of (kinds.Spike last times) key state (OfTimer timer)).productions
 spike-key last times key (states.Spike late held known) timer = by_due (total_due held timer)
   where
     by_due : (due : Option HeldTotal) → AllByRecursion (λ (p : Production). p.key ≡ key)
@@ -81,8 +81,8 @@ pub record FiresFirst (last times : ℕ) (key : List ℕ) (late : ℕ) (hs : Lis
 -- that is what the handler does
 pub fires-first : (last times : ℕ) (key : List ℕ) (late : ℕ) (h : HeldTotal) (hs : List HeldTotal) (values : List ℤ) → Climb (h ∷ hs)
     → AreLow (h ∷ hs)
-    → FiresFirst last times key late hs values h (effects_of_timer (kinds.Spike last times) key
-    (states.Spike late (h ∷ hs) (lastly last values)) (held_timer h))
+    → FiresFirst last times key late hs values h (effects_of (kinds.Spike last times) key
+    (states.Spike late (h ∷ hs) (lastly last values)) (OfTimer (held_timer h)))
 fires-first last times key late h hs values up lows =
     subst (λ o. FiresFirst last times key late hs values h (spike_timer last times key late (h ∷ hs) (lastly last values) o))
     (sym (due-first h hs))

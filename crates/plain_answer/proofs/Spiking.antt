@@ -26,7 +26,7 @@ use Rattle.mw_types.specs.Orders.{row_cmp}
 use Rattle.mw_types.specs.Outcomes.{EffectsView}
 use Rattle.topology.specs.Shapes.{Shape, kind_of, parts_of}
 use Rattle.row_parts.specs.Contents.{Contents, found_delivery, same_id, without_timer}
-use Rattle.computations.specs.Handlers.{fresh_state, one_more, due_time, held_with, spike_record, effects_of_record, effects_of_timer}
+use Rattle.computations.specs.Handlers.{fresh_state, one_more, due_time, held_with, spike_record, effects_of, OfRecord, OfTimer}
 use Rattle.run_history.specs.Cases.{CaseShape}
 use Rattle.run_history.specs.Inputs.{IsRunnable}
 use Rattle.run_history.specs.Made.{row_written, produced, late_cause}
@@ -189,7 +189,7 @@ module _ (case : CaseShape) (name : RowName) (last times : ℕ) (runs : IsRunnab
       d = may.delivery
 
       left : spike_record was.late was.held (lastly last (values was.over)) d.item ≡ effects
-      left = sym (ap (λ st. effects_of_record (kinds.Spike last times) name.key st d.item) was.state)
+      left = sym (ap (λ st. effects_of (kinds.Spike last times) name.key st (OfRecord d.item)) was.state)
           ∙ record-left case run name id effects (kinds.Spike last times) may kind
 
       nothing : own (out_at name.part (added_by (run_of shape h) (Handle seq name id effects))) ≡ []
@@ -281,10 +281,10 @@ module _ (case : CaseShape) (name : RowName) (last times : ℕ) (runs : IsRunnab
       by_held (t ∷ hs) state timers places climb low =
           let is : held_timer t ≡ timer = some_same (held_timer t) timer (sym (ap (λ l. slice_get l 0) timers) ∙ may.least_timer) in
           let of = fires-first last times name.key was.late t hs (values was.over) climb low in
-          let left : effects_of_timer (kinds.Spike last times) name.key
-          (states.Spike was.late (t ∷ hs) (lastly last (values was.over))) (held_timer t) ≡ effects =
-          ap (effects_of_timer (kinds.Spike last times) name.key (states.Spike was.late (t ∷ hs) (lastly last (values was.over)))) is
-          ∙ sym (ap (λ st. effects_of_timer (kinds.Spike last times) name.key st timer) state)
+          let left : effects_of (kinds.Spike last times) name.key
+          (states.Spike was.late (t ∷ hs) (lastly last (values was.over))) (OfTimer (held_timer t)) ≡ effects =
+          ap (effects_of (kinds.Spike last times) name.key (states.Spike was.late (t ∷ hs) (lastly last (values was.over)))) is
+          ∙ sym (ap (λ st. effects_of (kinds.Spike last times) name.key st (OfTimer timer)) state)
           ∙ timer-left case run name timer mark effects (kinds.Spike last times) may kind in
           let left_state : effects.state ≡ states.Spike was.late hs (lastly last (values was.over ++ t.value ∷ [])) =
           sym (ap (λ (o : EffectsView). o.state) left) ∙ of.state in

@@ -20,7 +20,7 @@ use Rattle.mw_types.specs.Outcomes.{EffectsView}
 use Rattle.topology.specs.Shapes.{Shape, kind_of}
 use Rattle.row_parts.specs.Contents.{with_timer, without_timer, is_timer, set_again, found_delivery}
 use Rattle.computations.specs.Entering.{entered-recursion}
-use Rattle.computations.specs.Handlers.{one_more, unchanged, outcome_with_timer, counted, count_record, window_end, effects_of_record}
+use Rattle.computations.specs.Handlers.{one_more, unchanged, outcome_with_timer, counted, count_record, window_end, effects_of, OfRecord}
 use Rattle.run_history.specs.Cases.{CaseShape}
 use Rattle.run_history.specs.Made.{row_written}
 use Rattle.run_history.specs.Runs.{Run, run_of, row_of, followed, empty_run, with_timers}
@@ -181,11 +181,11 @@ module _ (case : CaseShape) (name : RowName) (size : ℕ) (kind : kind_of case.t
       let ts : List Timer = (row_of shape s.run name).timers in
       let item : Record = may.delivery.item in
       let late : ℕ = has.counted.late in
-      let does : effects_of_record (kinds.Count size) name.key (row_of shape s.run name).state item ≡ effects =
-      some_same _ effects (sym (ap (option_map (λ k. effects_of_record k name.key (row_of shape s.run name).state item)) kind)
+      let does : effects_of (kinds.Count size) name.key (row_of shape s.run name).state (OfRecord item) ≡ effects =
+      some_same _ effects (sym (ap (option_map (λ k. effects_of k name.key (row_of shape s.run name).state (OfRecord item))) kind)
       ∙ may.does) in
       let left : count_record size late ws item ≡ effects =
-      sym (ap (λ st. effects_of_record (kinds.Count size) name.key st item) has.counted.is) ∙ does in
+      sym (ap (λ st. effects_of (kinds.Count size) name.key st (OfRecord item)) has.counted.is) ∙ does in
       let here : (row_of shape (followed shape s.run entry) name).timers ≡ with_timers effects.timers ts =
       ap (λ c. c.timers) (row_of-here shape s.run entry name refl) in
       let takes : deeds_in name s.run entry ≡ took item.stamp item.late ∷ [] =

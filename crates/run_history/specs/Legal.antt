@@ -15,21 +15,16 @@ use Rattle.mw_types.specs.Outcomes.{EffectsView}
 use Rattle.injector.specs.Sources.{item_at}
 use Rattle.topology.specs.Rules.{interval_count}
 use Rattle.topology.specs.Shapes.{injectors_of, kind_of}
-use Rattle.computations.specs.Handlers.{effects_of_record, effects_of_timer}
+use Rattle.computations.specs.Handlers.{Cause, effects_of, OfRecord, OfTimer}
 use Rattle.row_parts.specs.Contents.{Contents, found_delivery}
 use Rattle.run_history.specs.Cases.{CaseShape, is_injector, source_of, record_of}
 use Rattle.run_history.specs.Runs.{Run, row_in, row_of, followed, empty_run}
 use Rattle.run_history.specs.Watermarks.{cursor_of, low_watermark}
 
--- what a computation's handler leaves of a record in a row of this name, or none of an injector
-abbrev pub record_outcome : CaseShape → RowName → Contents → Record → Option EffectsView
-record_outcome case name row item =
-    option_map (λ kind. effects_of_record kind name.key row.state item) (kind_of case.topology name.part)
-
--- what a computation's handler leaves of a timer of a row of this name, or none of an injector
-abbrev pub timer_outcome : CaseShape → RowName → Contents → Timer → Option EffectsView
-timer_outcome case name row timer =
-    option_map (λ kind. effects_of_timer kind name.key row.state timer) (kind_of case.topology name.part)
+-- what a computation's handler leaves of a cause in a row of this name, or none of an injector
+abbrev pub outcome_of : CaseShape → RowName → Contents → Cause → Option EffectsView
+outcome_of case name row cause =
+    option_map (λ kind. effects_of kind name.key row.state cause) (kind_of case.topology name.part)
 
 -- the least commit number of a delivery that is pending in a row, or the next number where none is
 abbrev pub floor_of : Run → ℕ
@@ -53,7 +48,7 @@ pub record MayHandle (case : CaseShape) (run : Run) (row : RowName) (id : Record
   pub delivery : Delivery
   pub waits : found_delivery id run.unhandled ≡ Some delivery
   pub to_row : delivery.to ≡ row
-  pub does : record_outcome case row (row_of case.topology run row) delivery.item ≡ Some effects
+  pub does : outcome_of case row (row_of case.topology run row) (OfRecord delivery.item) ≡ Some effects
 
 -- a row may fire the least of its timers, once it is due under a mark that is not above the low watermark of
 -- its part, and leaves what its computation's handler leaves
@@ -62,7 +57,7 @@ pub record MayFire (case : CaseShape) (run : Run) (row : RowName) (timer : Timer
   pub least_timer : slice_get (row_of case.topology run row).timers 0 ≡ Some timer
   pub due : timer.time ≤ mark
   pub under_watermark : mark ≤ low_watermark case run row.part
-  pub does : timer_outcome case row (row_of case.topology run row) timer ≡ Some effects
+  pub does : outcome_of case row (row_of case.topology run row) (OfTimer timer) ≡ Some effects
 
 -- a sender may learn that what it made was handled, once
 pub record MayAcknowledge (case : CaseShape) (run : Run) (row : RowName) (id : RecordId) : Type 0 where

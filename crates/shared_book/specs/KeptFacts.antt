@@ -14,7 +14,8 @@ use Rattle.mw_types.specs.declared.record.Record.{Record}
 use Rattle.mw_types.specs.declared.timer.Timer.{Timer}
 use Rattle.row_parts.specs.Contents.{found_delivery}
 use Rattle.run_history.specs.Cases.{CaseShape}
-use Rattle.run_history.specs.Legal.{AreLegal, MayFollow, MayHandle, record_outcome}
+use Rattle.computations.specs.Handlers.{OfRecord}
+use Rattle.run_history.specs.Legal.{AreLegal, MayFollow, MayHandle, outcome_of}
 use Rattle.run_history.specs.Runs.{Run, followed, row_of}
 use Rattle.list_lemmas.proofs.Lists.{some_same}
 use Rattle.book.specs.Books.{LeaseView}
@@ -44,7 +45,7 @@ timer_set = Prim.hlevel props
 abbrev IsHandled : CaseShape → Run → RowName → RecordId → EffectsView → Delivery → Type 0
 IsHandled case run row id effects delivery =
     (found_delivery id run.unhandled ≡ Some delivery) × (delivery.to ≡ row)
-    × (record_outcome case row (row_of case.topology run row) delivery.item ≡ Some effects)
+    × (outcome_of case row (row_of case.topology run row) (OfRecord delivery.item) ≡ Some effects)
 
 -- the delivery is the one that waits
 MayHandle-prop : (case : CaseShape) (run : Run) (row : RowName) (id : RecordId) (effects : EffectsView)

@@ -86,8 +86,7 @@ where
     C: Computation + Sync,
     O: Sink,
     G: Gate + Sync,
-    requires work { IsWorkOf task.now.case.topology (C.has work.now)
-        (C.gives_record work.now) (C.gives_timer work.now) }
+    requires work { IsWorkOf task.now.case.topology (C.does work.now) }
     requires there { AreThere task.now.case.topology task.now.routes.weaks task.now.before }
     requires rounds { is_rounds task.now.before ≡ true }
     requires late { is_at_once task.now.wanted ≡ false }
@@ -128,8 +127,7 @@ where
     C: Computation + Sync,
     O: Sink,
     G: Gate + Sync,
-    requires work { IsWorkOf task.now.case.topology (C.has work.now)
-        (C.gives_record work.now) (C.gives_timer work.now) }
+    requires work { IsWorkOf task.now.case.topology (C.does work.now) }
     requires case { book.case ≡ task.now.case }
     requires there { AreThere task.now.case.topology task.now.routes.weaks task.now.before }
     requires rounds { is_rounds task.now.before ≡ true }
@@ -177,8 +175,7 @@ where
     K: Keeper + Send,
     C: Computation + Sync,
     G: Gate + Sync,
-    requires work { IsWorkOf task.now.case.topology (C.has work.now)
-        (C.gives_record work.now) (C.gives_timer work.now) }
+    requires work { IsWorkOf task.now.case.topology (C.does work.now) }
     requires case { book.case ≡ task.now.case }
     requires there { AreThere task.now.case.topology task.now.routes.weaks task.now.before }
     requires rounds { is_rounds task.now.before ≡ true }
@@ -218,8 +215,7 @@ fn end<'a, K: Keeper, C: Computation, O: Sink>(
     task: &Task,
     out: &mut O,
 ) -> Done<K>
-    requires work { IsWorkOf task.now.case.topology (C.has work.now)
-        (C.gives_record work.now) (C.gives_timer work.now) }
+    requires work { IsWorkOf task.now.case.topology (C.does work.now) }
     requires case { book.case ≡ task.now.case }
     requires limit { book.limit ≡ history_limit }
     requires rounds { AreRoundsOf task.now.case task.now.before book.rows fault book.history }
@@ -257,8 +253,7 @@ fn finish<'a, K: Keeper, C: Computation, O: Sink>(
     task: &Task,
     out: &mut O,
 ) -> Status
-    requires work { IsWorkOf task.now.case.topology (C.has work.now)
-        (C.gives_record work.now) (C.gives_timer work.now) }
+    requires work { IsWorkOf task.now.case.topology (C.does work.now) }
     requires case { book.old.case ≡ task.now.case }
     requires limit { book.old.limit ≡ history_limit }
     requires rounds { AreRoundsOf task.now.case task.now.before
@@ -313,8 +308,7 @@ fn work_off<'a, K: Keeper, C: Computation, O: Sink>(
     task: &Task,
     out: &mut O,
 ) -> Status
-    requires work { IsWorkOf task.now.case.topology (C.has work.now)
-        (C.gives_record work.now) (C.gives_timer work.now) }
+    requires work { IsWorkOf task.now.case.topology (C.does work.now) }
     requires case { book.old.case ≡ task.now.case }
     requires limit { book.old.limit ≡ history_limit }
     requires rounds { AreRoundsOf task.now.case task.now.before

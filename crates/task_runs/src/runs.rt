@@ -105,8 +105,7 @@ fn run_work<K: Keeper, C: Computation + Drop, O: Sink>(
     keeper: K,
     out: &mut O,
 ) -> Done<K>
-    requires work { IsWorkOf task.now.case.topology (C.has work)
-        (C.gives_record work) (C.gives_timer work) }
+    requires work { IsWorkOf task.now.case.topology (C.does work) }
     requires folding { IsFolding task.now.case.topology task.now.routes }
     requires before { task.now.before ≡ Before.Steps steps.now }
     requires steps { All (IsStep task.now.case.topology task.now.routes.weaks) steps.now }
@@ -150,8 +149,7 @@ fn run_book<'a, K: Keeper, C: Computation + Drop, O: Sink>(
     steps: &[Step],
     out: &mut O,
 ) -> Done<K>
-    requires work { IsWorkOf book.case.topology (C.has work)
-        (C.gives_record work) (C.gives_timer work) }
+    requires work { IsWorkOf book.case.topology (C.does work) }
     requires case { book.case ≡ task.now.case }
     requires folding { IsFolding task.now.case.topology task.now.routes }
     requires before { task.now.before ≡ Before.Steps steps.now }

@@ -27,7 +27,7 @@ use Rattle.mw_types.specs.Orders.{row_cmp}
 use Rattle.mw_types.specs.Outcomes.{EffectsView}
 use Rattle.mw_types.proofs.OrderLaws.{row_cmp-total}
 use Rattle.topology.specs.Shapes.{Shape, kind_of, parts_of}
-use Rattle.computations.specs.Handlers.{effects_of_record, effects_of_timer}
+use Rattle.computations.specs.Handlers.{effects_of, OfRecord, OfTimer}
 use Rattle.row_parts.specs.Contents.{Contents, cursor_in, same_id}
 use Rattle.row_parts.specs.Spelling.{FitsBytes}
 use Rattle.run_history.specs.Cases.{CaseShape, source_of}
@@ -171,7 +171,7 @@ handle-outcome case history seq row id effects next =
     let run = run_of case.topology history in
     let may = next.may in
     let state = (row_of case.topology run row).state in
-    let kind = was_some (λ (kind : Kind). effects_of_record kind row.key state may.delivery.item)
+    let kind = was_some (λ (kind : Kind). effects_of kind row.key state (OfRecord may.delivery.item))
     (kind_of case.topology row.part) effects may.does in
     let waiting = subst (AllByRecursion (λ (d : Delivery). IsKey d.item.key)) (sym (legal-tells case history next.legal).waiting)
     (each-filter (λ (d : Delivery). IsKey d.item.key) (is_left history) run.made
@@ -193,7 +193,7 @@ fire-outcome case history seq row timer mark effects next =
     let run = run_of case.topology history in
     let may = next.may in
     let state = (row_of case.topology run row).state in
-    let kind = was_some (λ (kind : Kind). effects_of_timer kind row.key state timer) (kind_of case.topology row.part) effects may.does in
+    let kind = was_some (λ (kind : Kind). effects_of kind row.key state (OfTimer timer)) (kind_of case.topology row.part) effects may.does in
     let name = written-name case history (Fire seq row timer mark effects) row next refl in
     outcome-of effects timer.time timer.late
     (left-within case history (Fire seq row timer mark effects) row next refl)

@@ -14,7 +14,8 @@ use Rattle.row_parts.specs.Contents.{found_delivery}
 use Rattle.run_history.specs.Cases.{CaseShape, record_of, source_of}
 use Rattle.run_history.specs.Fences.{IsUnderLastClaim, interval_of, last_claim}
 use Rattle.run_history.specs.Inputs.{IsRunnable}
-use Rattle.run_history.specs.Legal.{MayFollow, record_outcome, timer_outcome}
+use Rattle.computations.specs.Handlers.{OfRecord, OfTimer}
+use Rattle.run_history.specs.Legal.{MayFollow, outcome_of}
 use Rattle.run_history.specs.Runs.{empty_run, row_of, run_of}
 use Rattle.run_history.specs.Watermarks.{cursor_of}
 use Rattle.run_history.proofs.Making.{length-numbered}
@@ -46,12 +47,12 @@ inject_of case part line seq = option_map (Inject seq part line) (option_map rec
 -- what handles a record in a row
 abbrev handle_of : CaseShape → List Entry → RecordId → Record → RowName → Option Entry
 handle_of case history id item row = option_and_then (λ seq. option_map (Handle seq row id)
-    (record_outcome case row (row_of case.topology (run_of case.topology history) row) item)) (seq_of case history row)
+    (outcome_of case row (row_of case.topology (run_of case.topology history) row) (OfRecord item))) (seq_of case history row)
 
 -- what fires a timer of a row
 abbrev fire_of : CaseShape → List Entry → RowName → ℕ → Timer → Option Entry
 fire_of case history row mark timer = option_and_then (λ seq. option_map (Fire seq row timer mark)
-    (timer_outcome case row (row_of case.topology (run_of case.topology history) row) timer)) (seq_of case history row)
+    (outcome_of case row (row_of case.topology (run_of case.topology history) row) (OfTimer timer))) (seq_of case history row)
 
 -- the entry that a choice makes
 abbrev entry_for : CaseShape → List Entry → Choice → Option Entry
@@ -80,12 +81,12 @@ entry_for-own case history (Handle seq row id effects) may under =
     ap (option_and_then (λ (d : Delivery). handle_of case history id d.item d.to)) may.waits
     ∙ ap (handle_of case history id may.delivery.item) may.to_row
     ∙ ap (option_and_then (λ s. option_map (Handle s row id)
-    (record_outcome case row (row_of case.topology (run_of case.topology history) row) may.delivery.item))) (under row refl)
+    (outcome_of case row (row_of case.topology (run_of case.topology history) row) (OfRecord may.delivery.item)))) (under row refl)
     ∙ ap (option_map (Handle seq row id)) may.does
 entry_for-own case history (Fire seq row timer mark effects) may under =
     ap (option_and_then (fire_of case history row mark)) may.least_timer
     ∙ ap (option_and_then (λ s. option_map (Fire s row timer mark)
-    (timer_outcome case row (row_of case.topology (run_of case.topology history) row) timer))) (under row refl)
+    (outcome_of case row (row_of case.topology (run_of case.topology history) row) (OfTimer timer)))) (under row refl)
     ∙ ap (option_map (Fire seq row timer mark)) may.does
 entry_for-own case history (Ack seq row id) may under = ap (option_map (λ s. Ack s row id)) (under row refl)
 entry_for-own case history (Purge seq row floor) may under = ap (option_map (λ s. Purge s row floor)) (under row refl)

@@ -26,7 +26,7 @@ use Rattle.mw_types.specs.declared.entry.Entry.TheVariants.{Inject, Handle, Fire
 use Rattle.mw_types.specs.Outcomes.{EffectsView}
 use Rattle.injector.specs.Sources.{Source, SourceLine, item_at}
 use Rattle.topology.specs.Shapes.{consumers_of, kind_of}
-use Rattle.computations.specs.Handlers.{fresh_state, unchanged, outcome_with_timer, outcome_with_record, one_more, window_end, entered, counted, window_due, count_timer, due_time, held_with, total_due, is_spike, known_with, spike_timer, effects_of_record, effects_of_timer}
+use Rattle.computations.specs.Handlers.{fresh_state, unchanged, outcome_with_timer, outcome_with_record, one_more, window_end, entered, counted, window_due, count_timer, due_time, held_with, total_due, is_spike, known_with, spike_timer, effects_of, OfRecord, OfTimer}
 use Rattle.row_parts.specs.Contents.{Contents, same_id, is_timer}
 use Rattle.run_history.specs.Cases.{CaseShape, record_of, source_of}
 use Rattle.run_history.specs.Finished.{handles}
@@ -130,7 +130,7 @@ chosen-leaves false one other first second = second
 
 -- what a part of each kind leaves of a record
 of_record-leaves : (kind : Kind) (key : List ℕ) (state : State) (item : Record) → HasValues state → Fits item.value
-    → LeavesValues (effects_of_record kind key state item)
+    → LeavesValues (effects_of kind key state (OfRecord item))
 of_record-leaves (kinds.Count size) key (states.Count late windows) item has fits =
     let end = window_end size item.stamp in
     chosen-leaves item.late _ _ (unchanged-leaves (states.Count (one_more late) windows) has)
@@ -175,7 +175,7 @@ spike_timer-leaves last times key late held known (Some due) has is =
 
 -- and of a timer
 of_timer-leaves : (kind : Kind) (key : List ℕ) (state : State) (timer : Timer) → HasValues state
-    → LeavesValues (effects_of_timer kind key state timer)
+    → LeavesValues (effects_of kind key state (OfTimer timer))
 of_timer-leaves (kinds.Count size) key (states.Count late windows) timer has =
     count_timer-leaves key late windows (window_due windows timer) has
     (if-found (λ (w : Window). w.count ≤ MAX_STAMP) (timer.tag == 0) (find (λ (w : Window). w.end == timer.time) windows)
@@ -222,7 +222,7 @@ pub handle-leaves : (case : CaseShape) (run : Run) (seq : ℕ) (row : RowName) (
     → MayFollow case run (Handle seq row id effects) → LeavesValues effects
 handle-leaves case run seq row id effects are may =
     let state = (row_of case.topology run row).state in
-    let kind = was_some (λ (kind : Kind). effects_of_record kind row.key state may.delivery.item)
+    let kind = was_some (λ (kind : Kind). effects_of kind row.key state (OfRecord may.delivery.item))
     (kind_of case.topology row.part) effects may.does in
     subst LeavesValues kind.2 (of_record-leaves kind.0 row.key state may.delivery.item (row_of-values case run row are).0
     (find-each (λ (d : Delivery). Fits d.item.value) (λ (d : Delivery). same_id d.id id) run.unhandled may.delivery are.waiting may.waits))
@@ -232,7 +232,7 @@ pub fire-leaves : (case : CaseShape) (run : Run) (seq : ℕ) (row : RowName) (ti
     → AreValues run → MayFollow case run (Fire seq row timer mark effects) → LeavesValues effects
 fire-leaves case run seq row timer mark effects are may =
     let state = (row_of case.topology run row).state in
-    let kind = was_some (λ (kind : Kind). effects_of_timer kind row.key state timer) (kind_of case.topology row.part) effects may.does in
+    let kind = was_some (λ (kind : Kind). effects_of kind row.key state (OfTimer timer)) (kind_of case.topology row.part) effects may.does in
     subst LeavesValues kind.2 (of_timer-leaves kind.0 row.key state timer (row_of-values case run row are).0)
 
 -- an injector's next state has no values

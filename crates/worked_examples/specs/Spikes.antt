@@ -8,7 +8,7 @@ use Rattle.mw_types.specs.declared.kind.Kind.TheVariants as kinds
 use Rattle.mw_types.specs.declared.state.State.{State}
 use Rattle.mw_types.specs.declared.state.State.TheVariants as states
 use Rattle.mw_types.specs.Outcomes.{EffectsView}
-use Rattle.computations.specs.Handlers.{fresh_state, effects_of_record, effects_of_timer}
+use Rattle.computations.specs.Handlers.{fresh_state, effects_of, OfRecord, OfTimer}
 use Rattle.worked_examples.specs.First.{key_a, record_at, end_of, window}
 
 -- the kind of the count
@@ -29,7 +29,7 @@ five_stamps = 0 ∷ 60 ∷ 120 ∷ 121 ∷ 122 ∷ []
 
 -- what the count leaves of a record
 abbrev pub taken_in : State → ℕ → EffectsView
-taken_in state stamp = effects_of_record counts_kind key_a state (record_at stamp)
+taken_in state stamp = effects_of counts_kind key_a state (OfRecord (record_at stamp))
 
 -- the state of the count once records of these timestamps are handled, one after another
 abbrev pub counted_at : List ℕ → State
@@ -41,12 +41,12 @@ open_from closed last = states.Count 0 (drop closed (window 60 1 ∷ window 120 
 
 -- what the count leaves of a late record
 abbrev pub late_in : State → ℕ → EffectsView
-late_in state stamp = effects_of_record counts_kind key_a state
-    (record { key = key_a; stamp = stamp; value = pos 1; late = true })
+late_in state stamp = effects_of counts_kind key_a state
+    (OfRecord (record { key = key_a; stamp = stamp; value = pos 1; late = true }))
 
 -- what the count leaves of the timer that ends a window
 abbrev pub closed_at : State → ℕ → EffectsView
-closed_at state end = effects_of_timer counts_kind key_a state (end_of end)
+closed_at state end = effects_of counts_kind key_a state (OfTimer (end_of end))
 
 -- a spike that holds this total, and knows these
 abbrev pub holding : ℕ → ℕ → List ℤ → State
@@ -58,17 +58,17 @@ knowing known = states.Spike 0 [] known
 
 -- what the spike leaves of the record of a window's total
 abbrev pub held_at : State → ℕ → ℕ → EffectsView
-held_at state stamp value = effects_of_record spikes_kind key_a state
-    (record { key = key_a; stamp = stamp; value = pos value; late = false })
+held_at state stamp value = effects_of spikes_kind key_a state
+    (OfRecord (record { key = key_a; stamp = stamp; value = pos value; late = false }))
 
 -- what it leaves of such a record that is late
 abbrev pub late_at : State → ℕ → ℕ → EffectsView
-late_at state stamp value = effects_of_record spikes_kind key_a state
-    (record { key = key_a; stamp = stamp; value = pos value; late = true })
+late_at state stamp value = effects_of spikes_kind key_a state
+    (OfRecord (record { key = key_a; stamp = stamp; value = pos value; late = true }))
 
 -- what the spike leaves of the timer that is due one microsecond after a total
 abbrev pub due_at : State → ℕ → EffectsView
-due_at state time = effects_of_timer spikes_kind key_a state (end_of time)
+due_at state time = effects_of spikes_kind key_a state (OfTimer (end_of time))
 
 -- the state with one timer set
 abbrev pub sets : State → ℕ → EffectsView

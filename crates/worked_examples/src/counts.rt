@@ -3,7 +3,7 @@ ghost use Rattle.std.specs.Prelude.{◌≡◌, ℕ, ◌∷◌, [], false};
 ghost use Rattle.mw_types.specs.declared.TheConstants.{MAX_STAMP};
 ghost use Rattle.mw_types.specs.declared.timer.Timer.{Timer};
 ghost use Rattle.mw_types.specs.declared.state.State.TheVariants.{Count};
-ghost use Rattle.computations.specs.Handlers.{effects_of_timer};
+ghost use Rattle.computations.specs.Handlers.{effects_of, OfTimer};
 ghost use Rattle.worked_examples.specs.First.{key_a, window, counts};
 ghost use Rattle.worked_examples.specs.Spikes.{counts_kind, counted_at, taken_in, late_in, closed_at, keeps};
 
@@ -27,5 +27,5 @@ pub fn count_at_the_edges()
     ensures no_window { let state = Count 0 (window 60 3 ∷ []) in closed_at state 61 ≡ keeps state }
     ensures other_tag { let state = Count 0 (window 60 3 ∷ []) in
         let timer : Timer = record { tag = 1; time = 60; late = false } in
-        effects_of_timer counts_kind key_a state timer ≡ keeps state }
+        effects_of counts_kind key_a state (OfTimer timer) ≡ keeps state }
 {}

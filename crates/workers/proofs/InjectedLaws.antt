@@ -14,7 +14,7 @@ use Rattle.mw_types.specs.declared.kind.Kind.{Kind}
 use Rattle.mw_types.specs.declared.record.Record.{Record}
 use Rattle.mw_types.specs.declared.state.State.TheVariants as states
 use Rattle.injector.specs.Sources.{Source, SourceLine, item_at}
-use Rattle.computations.specs.Handlers.{effects_of_record, effects_of_timer, fresh_state}
+use Rattle.computations.specs.Handlers.{effects_of, fresh_state, OfRecord, OfTimer}
 use Rattle.row_parts.specs.Contents.{Contents, cursor_in}
 use Rattle.run_history.specs.Cases.{CaseShape, is_injector, source_of}
 use Rattle.run_history.specs.Fences.{known}
@@ -83,12 +83,12 @@ changed-lines case run (entries.Inject seq other line item) sent part lines is m
     subst (λ p. injected part (entries.Inject seq p line item ∷ []) ≡ 1) (sym same) (injected-line part seq line item) in
     ap advanced before ∙ ap (λ (k : ℕ). states.Injector (lines + k)) (sym one)
 changed-lines case run (entries.Handle seq row id effects) sent part lines is may written before =
-    let kind = was_some (λ (kind : Kind). effects_of_record kind row.key (row_of case.topology run row).state may.delivery.item)
+    let kind = was_some (λ (kind : Kind). effects_of kind row.key (row_of case.topology run row).state (OfRecord may.delivery.item))
     (kind_of case.topology row.part) effects may.does in
     absurd (injector-no_kind case.topology row.part kind.0
     (subst (λ (n : RowName). is_injector case.topology n.part ≡ true) (sym (some_same _ _ written)) is) kind.1)
 changed-lines case run (entries.Fire seq row timer mark effects) sent part lines is may written before =
-    let kind = was_some (λ (kind : Kind). effects_of_timer kind row.key (row_of case.topology run row).state timer)
+    let kind = was_some (λ (kind : Kind). effects_of kind row.key (row_of case.topology run row).state (OfTimer timer))
     (kind_of case.topology row.part) effects may.does in
     absurd (injector-no_kind case.topology row.part kind.0
     (subst (λ (n : RowName). is_injector case.topology n.part ≡ true) (sym (some_same _ _ written)) is) kind.1)

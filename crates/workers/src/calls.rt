@@ -84,8 +84,7 @@ impl<'a, N: Seen, C: Computation> Call<N> for Fire<'a, C> {
     ghost use Rattle.node.specs.Works.{IsWorkOf};
 
     ghost may = { λ call case. IsComputation case.topology call.part
-        × IsWorkOf case.topology (C.has call.work.now)
-        (C.gives_record call.work.now) (C.gives_timer call.work.now) };
+        × IsWorkOf case.topology (C.does call.work.now) };
 
     ghost most = { λ call. 1 };
 

@@ -166,8 +166,7 @@ impl<K: Keeper, J: Office> Worker<K, J> {
     )
         requires case { shared.now.case.now ≡ case.now }
         requires worker { IsWorker shared.now.table.shared.table_id case.now self.old }
-        requires work { IsWorkOf case.now.topology (C.has work.now)
-            (C.gives_record work.now) (C.gives_timer work.now) }
+        requires work { IsWorkOf case.now.topology (C.does work.now) }
         requires shape { case.now.topology ≡ J.shape }
         requires book { table_numbers shared.now.table.shared.table_id ≡ J.book }
         requires passes { HasPasses case.now boxes.now self.old }

@@ -42,8 +42,7 @@ where
     requires case { shared.now.case.now ≡ case.now }
     requires some { 0 < length crew.old }
     requires workers { All (IsWorker shared.now.table.shared.table_id case.now) crew.old }
-    requires work { IsWorkOf case.now.topology (C.has work.now)
-        (C.gives_record work.now) (C.gives_timer work.now) }
+    requires work { IsWorkOf case.now.topology (C.does work.now) }
     requires shape { case.now.topology ≡ J.shape }
     requires book { table_numbers shared.now.table.shared.table_id ≡ J.book }
     requires passes { AllHavePasses case.now boxes.now crew.old }
@@ -58,8 +57,7 @@ where
         &|_, worker: &mut Worker<K, J>|
             requires case { shared.now.case.now ≡ case.now }
             requires worker { IsWorker shared.now.table.shared.table_id case.now worker.old }
-            requires work { IsWorkOf case.now.topology (C.has work.now)
-                (C.gives_record work.now) (C.gives_timer work.now) }
+            requires work { IsWorkOf case.now.topology (C.does work.now) }
             requires shape { case.now.topology ≡ J.shape }
             requires book { table_numbers shared.now.table.shared.table_id ≡ J.book }
             requires passes { HasPasses case.now boxes.now worker.old }
@@ -89,8 +87,7 @@ where
     requires case { shared.now.case.now ≡ case.now }
     requires some { 0 < length crew.old }
     requires workers { AreWorkers shared.now.table.shared.table_id case.now crew.old }
-    requires work { IsWorkOf case.now.topology (C.has work.now)
-        (C.gives_record work.now) (C.gives_timer work.now) }
+    requires work { IsWorkOf case.now.topology (C.does work.now) }
     requires shape { case.now.topology ≡ J.shape }
     requires book { table_numbers shared.now.table.shared.table_id ≡ J.book }
     requires passes { AllHavePasses case.now boxes.now crew.old }

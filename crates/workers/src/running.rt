@@ -68,8 +68,7 @@ where
     C: Computation + Sync,
     G: Gate + Sync,
     requires case { book.case ≡ case.now }
-    requires work { IsWorkOf case.now.topology (C.has work.now)
-        (C.gives_record work.now) (C.gives_timer work.now) }
+    requires work { IsWorkOf case.now.topology (C.does work.now) }
     requires some { 0 < workers }
     requires few { workers ≤ 16 }
     requires rounds { rounds ≤ 1000 }
@@ -149,8 +148,7 @@ where
     requires numbers { seat.old.place.me.0.numbers ≡ span 0 (workers + 1) }
     requires seats { seat.old.place.me.0.basis.seats ≡ workers + 1 }
     requires fresh { seat.old.place.me.0.own ≡ [] }
-    requires work { IsWorkOf case.now.topology (C.has work.now)
-        (C.gives_record work.now) (C.gives_timer work.now) }
+    requires work { IsWorkOf case.now.topology (C.does work.now) }
     requires shape { case.now.topology ≡ J.shape }
     requires book { table_numbers shared.now.table.shared.table_id ≡ J.book }
     requires some { 0 < workers }
@@ -206,8 +204,7 @@ where
     requires some { 0 < length crew.old }
     requires fresh { AreFresh crew.old }
     requires calm { AreCalm crew.old }
-    requires work { IsWorkOf case.now.topology (C.has work.now)
-        (C.gives_record work.now) (C.gives_timer work.now) }
+    requires work { IsWorkOf case.now.topology (C.does work.now) }
     requires shape { case.now.topology ≡ J.shape }
     requires book { table_numbers shared.now.table.shared.table_id ≡ J.book }
     requires passes { AllHavePasses case.now boxes.now crew.old }

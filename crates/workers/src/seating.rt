@@ -118,8 +118,7 @@ fn work_at<K: Keeper, R: Wait, C: Computation, G: Gate, J: Office>(
     requires case { shared.now.case.now ≡ case.now }
     requires seated { IsSeated shared.now.table.shared.table_id case.now seat.old.place }
     requires fits { Fits case.now (shared_view seat.old.place.me.0) node.old }
-    requires work { IsWorkOf case.now.topology (C.has work.now)
-        (C.gives_record work.now) (C.gives_timer work.now) }
+    requires work { IsWorkOf case.now.topology (C.does work.now) }
     requires shape { case.now.topology ≡ J.shape }
     requires book { table_numbers shared.now.table.shared.table_id ≡ J.book }
     requires passes { ArePasses (length (intervals_of case.now.topology)) boxes.now passes.old }
@@ -161,8 +160,7 @@ pub(crate) fn work_with<K: Keeper, R: Wait, C: Computation, G: Gate, J: Office>(
     requires case { shared.now.case.now ≡ case.now }
     requires seated { IsSeated shared.now.table.shared.table_id case.now seat.old.place }
     requires fits { Fits case.now (shared_view seat.old.place.me.0) node.old }
-    requires work { IsWorkOf case.now.topology (C.has work.now)
-        (C.gives_record work.now) (C.gives_timer work.now) }
+    requires work { IsWorkOf case.now.topology (C.does work.now) }
     requires shape { case.now.topology ≡ J.shape }
     requires book { table_numbers shared.now.table.shared.table_id ≡ J.book }
     requires passes { ArePasses (length (intervals_of case.now.topology)) boxes.now passes.old }

@@ -56,8 +56,7 @@ pub fn slice<'s, 'a, R: Wait, K: Keeper, C: Computation, G: Gate, J: Office>(
 ) -> Result<(), NodeFault>
     requires fits { Fits case.now
         (shared_view desk.old.seat.now.place.me.0) node.old }
-    requires work { IsWorkOf case.now.topology (C.has work.now)
-        (C.gives_record work.now) (C.gives_timer work.now) }
+    requires work { IsWorkOf case.now.topology (C.does work.now) }
     requires shape { case.now.topology ≡ J.shape }
     requires book { (shared_home desk.old.seat.now.place).book ≡ J.book }
     requires passes { ArePasses (length (intervals_of case.now.topology)) boxes.now passes.old }

@@ -92,8 +92,7 @@ fn fire_next<R: Wait, N: Seen, D: Desk<Note = N>, C: Computation>(
     part: u32,
 ) -> Result<bool, NodeFault>
     requires fits { Fits case.now (D.view desk.old) node.old }
-    requires work { IsWorkOf case.now.topology (C.has work.now)
-        (C.gives_record work.now) (C.gives_timer work.now) }
+    requires work { IsWorkOf case.now.topology (C.does work.now) }
     requires part { IsComputation case.now.topology part }
 
     ensures served { HasServed case.now 1 (D.view desk.old) (D.view desk.new)
@@ -123,8 +122,7 @@ fn fire_part<R: Wait, N: Seen, D: Desk<Note = N>, C: Computation>(
     most: u32,
 ) -> Result<(), NodeFault>
     requires fits { Fits case.now (D.view desk.old) node.old }
-    requires work { IsWorkOf case.now.topology (C.has work.now)
-        (C.gives_record work.now) (C.gives_timer work.now) }
+    requires work { IsWorkOf case.now.topology (C.does work.now) }
     requires part { IsComputation case.now.topology part }
 
     ensures served { HasServed case.now most (D.view desk.old) (D.view desk.new)
@@ -151,8 +149,7 @@ pub(crate) fn fire_all<R: Wait, N: Seen, D: Desk<Note = N>, C: Computation>(
     work: &C,
 ) -> Result<(), NodeFault>
     requires fits { Fits case.now (D.view desk.old) node.old }
-    requires work { IsWorkOf case.now.topology (C.has work.now)
-        (C.gives_record work.now) (C.gives_timer work.now) }
+    requires work { IsWorkOf case.now.topology (C.does work.now) }
 
     ensures served { HasServed case.now 976 (D.view desk.old) (D.view desk.new)
         node.old node.new }

@@ -90,8 +90,7 @@ fn take_in<N: Seen, D: Desk<Note = N>, C: Computation>(
     message: Message<N>,
 ) -> Result<bool, NodeFault>
     requires fits { Fits case.now (D.view desk.old) node.old }
-    requires work { IsWorkOf case.now.topology (C.has work.now)
-        (C.gives_record work.now) (C.gives_timer work.now) }
+    requires work { IsWorkOf case.now.topology (C.does work.now) }
     requires alone { (D.view desk.old).alone ≡ false }
     requires addressed { IsAddressed case.now.topology (outgoing_of message) }
     requires known { N.book (note_of message) ≡ (D.home desk.old).book }
@@ -175,8 +174,7 @@ fn take_record<R: Wait, N: Seen, D: Desk<Note = N>, C: Computation, G: Gate>(
     gate: &G,
 ) -> Result<bool, NodeFault>
     requires fits { Fits case.now (D.view desk.old) node.old }
-    requires work { IsWorkOf case.now.topology (C.has work.now)
-        (C.gives_record work.now) (C.gives_timer work.now) }
+    requires work { IsWorkOf case.now.topology (C.does work.now) }
     requires alone { (D.view desk.old).alone ≡ false }
     requires addressed { IsAddressed case.now.topology (outgoing_of message) }
     requires known { N.book (note_of message) ≡ (D.home desk.old).book }
@@ -209,8 +207,7 @@ pub(crate) fn take_one<R: Wait, N: Seen, D: Desk<Note = N>, C: Computation, G: G
     gate: &G,
 ) -> Result<bool, NodeFault>
     requires fits { Fits case.now (D.view desk.old) node.old }
-    requires work { IsWorkOf case.now.topology (C.has work.now)
-        (C.gives_record work.now) (C.gives_timer work.now) }
+    requires work { IsWorkOf case.now.topology (C.does work.now) }
     requires alone { (D.view desk.old).alone ≡ false }
     requires addressed { IsAddressed case.now.topology (outgoing_of message) }
     requires known { N.book (note_of message) ≡ (D.home desk.old).book }
@@ -243,8 +240,7 @@ fn take_from<R: Wait, N: Seen, D: Desk<Note = N>, C: Computation, G: Gate, J: Of
     gate: &G,
 ) -> Result<(u32, bool), NodeFault>
     requires fits { Fits case.now (D.view desk.old) node.old }
-    requires work { IsWorkOf case.now.topology (C.has work.now)
-        (C.gives_record work.now) (C.gives_timer work.now) }
+    requires work { IsWorkOf case.now.topology (C.does work.now) }
     requires alone { (D.view desk.old).alone ≡ false }
     requires shape { case.now.topology ≡ J.shape }
     requires book { (D.home desk.old).book ≡ J.book }
@@ -287,8 +283,7 @@ fn take_at<R: Wait, N: Seen, D: Desk<Note = N>, C: Computation, G: Gate, J: Offi
     gate: &G,
 ) -> Result<bool, NodeFault>
     requires fits { Fits case.now (D.view desk.old) node.old }
-    requires work { IsWorkOf case.now.topology (C.has work.now)
-        (C.gives_record work.now) (C.gives_timer work.now) }
+    requires work { IsWorkOf case.now.topology (C.does work.now) }
     requires alone { (D.view desk.old).alone ≡ false }
     requires shape { case.now.topology ≡ J.shape }
     requires book { (D.home desk.old).book ≡ J.book }
@@ -335,8 +330,7 @@ pub(crate) fn take_all<R: Wait, N: Seen, D: Desk<Note = N>, C: Computation, G: G
     gate: &G,
 ) -> Result<bool, NodeFault>
     requires fits { Fits case.now (D.view desk.old) node.old }
-    requires work { IsWorkOf case.now.topology (C.has work.now)
-        (C.gives_record work.now) (C.gives_timer work.now) }
+    requires work { IsWorkOf case.now.topology (C.does work.now) }
     requires alone { (D.view desk.old).alone ≡ false }
     requires shape { case.now.topology ≡ J.shape }
     requires book { (D.home desk.old).book ≡ J.book }

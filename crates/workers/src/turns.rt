@@ -132,8 +132,7 @@ fn work_on<R: Wait, N: Seen, D: Desk<Note = N>, C: Computation>(
     work: &C,
 ) -> Result<(), NodeFault>
     requires fits { Fits case.now (D.view desk.old) node.old }
-    requires work { IsWorkOf case.now.topology (C.has work.now)
-        (C.gives_record work.now) (C.gives_timer work.now) }
+    requires work { IsWorkOf case.now.topology (C.does work.now) }
 
     ensures served { HasServedLines case.now 1232 (lines_each 16) (D.view desk.old)
         (D.view desk.new) node.old node.new }
@@ -160,8 +159,7 @@ fn go_on<R: Wait, N: Seen, D: Desk<Note = N>, C: Computation, J: Office>(
     orders: &Orders,
 ) -> Result<(), NodeFault>
     requires fits { Fits case.now (D.view desk.old) node.old }
-    requires work { IsWorkOf case.now.topology (C.has work.now)
-        (C.gives_record work.now) (C.gives_timer work.now) }
+    requires work { IsWorkOf case.now.topology (C.does work.now) }
     requires shape { case.now.topology ≡ J.shape }
     requires book { (D.home desk.old).book ≡ J.book }
     requires passes { ArePasses (length (intervals_of case.now.topology)) boxes.now passes.old }
@@ -195,8 +193,7 @@ pub(crate) fn within<R: Wait, N: Seen, D: Desk<Note = N>, C: Computation, G: Gat
     gate: &G,
 ) -> Result<(), NodeFault>
     requires fits { Fits case.now (D.view desk.old) node.old }
-    requires work { IsWorkOf case.now.topology (C.has work.now)
-        (C.gives_record work.now) (C.gives_timer work.now) }
+    requires work { IsWorkOf case.now.topology (C.does work.now) }
     requires alone { (D.view desk.old).alone ≡ false }
     requires shape { case.now.topology ≡ J.shape }
     requires book { (D.home desk.old).book ≡ J.book }

@@ -16,7 +16,8 @@ use Rattle.row_parts.specs.Contents.{IsDelivery, cursor_in, found_delivery, same
 use Rattle.run_history.specs.Cases.{CaseShape}
 use Rattle.run_history.specs.Fences.{interval_of, is_claim}
 use Rattle.run_history.specs.Finished.{is_handled}
-use Rattle.run_history.specs.Legal.{floor_of, timer_outcome}
+use Rattle.computations.specs.Handlers.{OfTimer}
+use Rattle.run_history.specs.Legal.{floor_of, outcome_of}
 use Rattle.run_history.specs.Runs.{run_of}
 use Rattle.book.specs.Books.{BookView}
 use Rattle.book.specs.Conditions.{MaySettle}
@@ -333,7 +334,7 @@ memory-asking MayAsk why is = λ full. absurd (let both : faults.NoMemory ≡ fa
 pub fire-asked : (old new : BookView) (all : List (Option HeldView)) (name : RowName) (timer : Timer) (mark interval : ℕ)
     (effects : EffectsView) (set : IsSetAt old.case.topology all interval name timer)
     → interval_of old.case.topology name ≡ Some interval → IsNextTimer old.case.topology (worker_of all) name.part mark name timer
-    → timer_outcome old.case name set.row timer ≡ Some effects
+    → outcome_of old.case name set.row (OfTimer timer) ≡ Some effects
     → IfSome (held_at all interval) (λ here. HasProposed old new here.lease.seq name (proposals.Fire timer mark effects))
     → HasAskedOne old new (MayAskFire old.case (worker_of all) name.part mark) true
 fire-asked old new all name timer mark interval effects set covers next does done =

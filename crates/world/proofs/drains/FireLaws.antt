@@ -17,7 +17,7 @@ use Rattle.mw_types.specs.declared.identity.RowName.{RowName}
 use Rattle.mw_types.specs.declared.kind.Kind.{Kind}
 use Rattle.mw_types.specs.declared.timer.Timer.{Timer}
 use Rattle.mw_types.proofs.OrderLaws.{key_cmp-total, row_cmp-total}
-use Rattle.computations.specs.Handlers.{effects_of_timer}
+use Rattle.computations.specs.Handlers.{effects_of, OfTimer}
 use Rattle.topology.specs.Shapes.{ComputationShape, Shape, injectors_of, kind_of}
 use Rattle.row_parts.specs.Contents.{Contents}
 use Rattle.row_parts.specs.Orders.{timer_cmp-total}
@@ -236,7 +236,7 @@ module _ (book : BookView) (node : NodeView) (at : IsAtWork book node) (told : I
       let kind = kind-found book.case.topology row.part (subst (IsComputation book.case.topology) (sym of) is) in
       let held = first.1.held in
       let contents = row_held book.case.topology held row in
-      let effects = effects_of_timer kind.0 row.key contents.state timer in
+      let effects = effects_of kind.0 row.key contents.state (OfTimer timer) in
       let early = first-least timer_cmp timer_cmp-total (row_of book.case.topology run row).timers first.0 timer (ordered row) first.2 due.set in
       let first_due : IsDue book.case run row first.0 = record {
         set = first-has (row_of book.case.topology run row).timers first.0 first.2;
@@ -271,7 +271,7 @@ module _ (book : BookView) (node : NodeView) (at : IsAtWork book node) (told : I
             due = omega (arith, under, watermark, in_part);
           };
           effects = effects;
-          does = ap (option_map (λ (k : Kind). effects_of_timer k row.key contents.state timer)) kind.1;
+          does = ap (option_map (λ (k : Kind). effects_of k row.key contents.state (OfTimer timer))) kind.1;
           request = refl;
         },
       )

@@ -17,7 +17,8 @@ use Rattle.run_history.specs.Cases.{CaseShape, source_of, record_of}
 use Rattle.run_history.specs.Made.{row_written}
 use Rattle.run_history.specs.Runs.{Run, run_of, row_of, empty_run}
 use Rattle.run_history.specs.Watermarks.{cursor_of, low_watermark}
-use Rattle.run_history.specs.Legal.{MayFollow, MayInject, MayHandle, MayFire, IsLegal, record_outcome, timer_outcome}
+use Rattle.computations.specs.Handlers.{OfRecord, OfTimer}
+use Rattle.run_history.specs.Legal.{MayFollow, MayInject, MayHandle, MayFire, IsLegal, outcome_of}
 use Rattle.run_history.specs.Fences.{IsFenced, IsUnderLastClaim, sequencer_of}
 use Rattle.run_history.specs.Finished.{is_handled}
 use Rattle.list_lemmas.proofs.Lists.{some_same}
@@ -57,7 +58,7 @@ one_handled case run row other id also one two r n may can =
     let d : may.delivery ≡ can.delivery = some_same may.delivery can.delivery
     (sym may.waits ∙ ap (λ i. found_delivery i run.unhandled) n ∙ can.waits) in
     some_same one two (sym may.does
-    ∙ (λ i. record_outcome case (r i) (row_of case.topology run (r i)) (d i).item) ∙ can.does)
+    ∙ (λ i. outcome_of case (r i) (row_of case.topology run (r i)) (OfRecord (d i).item)) ∙ can.does)
 
 -- two firings in one row are of one timer, and leave the same
 one_fired : (case : CaseShape) (run : Run) (row other : RowName) (t u : Timer) (m n : ℕ) (one two : EffectsView) → row ≡ other
@@ -66,7 +67,7 @@ one_fired case run row other t u m n one two r may can =
     let same : t ≡ u = some_same t u (sym may.least_timer
     ∙ ap (λ name. slice_get (row_of case.topology run name).timers 0) r ∙ can.least_timer) in (
       same,
-      some_same one two (sym may.does ∙ (λ i. timer_outcome case (r i) (row_of case.topology run (r i)) (same i)) ∙ can.does),
+      some_same one two (sym may.does ∙ (λ i. outcome_of case (r i) (row_of case.topology run (r i)) (OfTimer (same i))) ∙ can.does),
     )
 
 -- two injections of one injector are of one line

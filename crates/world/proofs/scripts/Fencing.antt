@@ -17,7 +17,8 @@ use Rattle.topology.specs.Shapes.{Shape}
 use Rattle.row_parts.specs.Contents.{Contents, is_finished, cursor_in, found_delivery}
 use Rattle.run_history.specs.Cases.{CaseShape, intervals_of, record_of, source_of}
 use Rattle.run_history.specs.Fences.{IsCurrent, IsFenced, interval_of, sequencer_of}
-use Rattle.run_history.specs.Legal.{floor_of, record_outcome, timer_outcome}
+use Rattle.computations.specs.Handlers.{OfRecord, OfTimer}
+use Rattle.run_history.specs.Legal.{floor_of, outcome_of}
 use Rattle.run_history.specs.Made.{row_written}
 use Rattle.run_history.specs.Runs.{run_of}
 use Rattle.run_history.specs.Watermarks.{least}
@@ -172,7 +173,7 @@ own-write case world number = let shape = case.topology in let worker = worker_o
     (λ sending there. let delivery = sending.delivery in
     own-option shape world number (write_under case number world sending) (lease_on shape worker delivery.to)
     (λ lease found. own-option shape world number (write_effects number world sending lease)
-    (record_outcome case delivery.to (row_known shape world lease delivery.to) delivery.item)
+    (outcome_of case delivery.to (row_known shape world lease delivery.to) (OfRecord delivery.item))
     (λ effects does. own-writes shape world number lease (entries.Handle lease.seq delivery.to delivery.id effects)
     (with_written (Some sending) worker) delivery.to (lease_on-had shape worker delivery.to lease found) refl refl)))
 
@@ -185,7 +186,7 @@ own-fire case world number part = let shape = case.topology in let worker = work
     (option_map_or (fire_under case number world mark due) (lease_on shape worker due.0) (nothing world number)) tt
     (own-option shape world number (fire_under case number world mark due) (lease_on shape worker due.0)
     (λ lease found. own-option shape world number (fire_effects number world mark due lease)
-    (timer_outcome case due.0 (row_known shape world lease due.0) due.1)
+    (outcome_of case due.0 (row_known shape world lease due.0) (OfTimer due.1))
     (λ effects does. own-writes shape world number lease (entries.Fire lease.seq due.0 due.1 mark effects) worker due.0
     (lease_on-had shape worker due.0 lease found) refl refl)))
     (is_some worker.prepared))

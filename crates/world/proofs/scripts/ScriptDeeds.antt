@@ -12,7 +12,8 @@ use Rattle.injector.specs.Sources.{item_at}
 use Rattle.topology.specs.Shapes.{Shape}
 use Rattle.row_parts.specs.Contents.{is_finished, cursor_in, found_delivery}
 use Rattle.run_history.specs.Cases.{CaseShape, intervals_of, record_of, source_of}
-use Rattle.run_history.specs.Legal.{floor_of, record_outcome, timer_outcome}
+use Rattle.computations.specs.Handlers.{OfRecord, OfTimer}
+use Rattle.run_history.specs.Legal.{floor_of, outcome_of}
 use Rattle.run_history.specs.Marks.{own_work}
 use Rattle.run_history.specs.Runs.{run_of}
 use Rattle.run_history.specs.Watermarks.{least}
@@ -213,7 +214,7 @@ keeps-write_under case world number sending lease = let delivery = sending.deliv
     keeps-option world number (write_effects number world sending lease)
     (λ effects. keeps-writes world number lease (entries.Handle lease.seq delivery.to delivery.id effects)
     (with_written (Some sending) (worker_of world number)) (λ i. refl))
-    (record_outcome case delivery.to (row_known case.topology world lease delivery.to) delivery.item)
+    (outcome_of case delivery.to (row_known case.topology world lease delivery.to) (OfRecord delivery.item))
 
 -- what is prepared
 keeps-write : (case : CaseShape) (world : World) (number : ℕ) → IsKeeping world (write case number world)
@@ -227,7 +228,7 @@ keeps-fire_under : (case : CaseShape) (world : World) (number mark : ℕ) (due :
     → IsKeeping world (fire_under case number world mark due lease)
 keeps-fire_under case world number mark due lease = keeps-option world number (fire_effects number world mark due lease)
     (λ effects. keeps-written world number lease (entries.Fire lease.seq due.0 due.1 mark effects))
-    (timer_outcome case due.0 (row_known case.topology world lease due.0) due.1)
+    (outcome_of case due.0 (row_known case.topology world lease due.0) (OfTimer due.1))
 
 -- a timer that is due
 keeps-fire_due : (case : CaseShape) (world : World) (number mark : ℕ) (due : RowName × Timer)

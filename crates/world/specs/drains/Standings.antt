@@ -6,7 +6,8 @@ use Rattle.mw_types.specs.declared.identity.RowName.{RowName}
 use Rattle.topology.specs.Shapes.{parts_of}
 use Rattle.row_parts.specs.Contents.{Contents, is_finished}
 use Rattle.run_history.specs.Cases.{CaseShape}
-use Rattle.run_history.specs.Legal.{record_outcome}
+use Rattle.computations.specs.Handlers.{OfRecord}
+use Rattle.run_history.specs.Legal.{outcome_of}
 use Rattle.run_history.specs.Runs.{Run, run_of}
 use Rattle.book.specs.Books.{BookView, core_of}
 use Rattle.book.specs.Lawful.{IsLawful}
@@ -23,7 +24,7 @@ pub record IsToWrite (case : CaseShape) (run : Run) (row : Contents) (delivery :
     (effects : EffectsView) : Type 0 where
   pub left : is_finished delivery.id row ≡ false
   pub room : is_full run row ≡ false
-  pub does : record_outcome case delivery.to row delivery.item ≡ Some effects
+  pub does : outcome_of case delivery.to row (OfRecord delivery.item) ≡ Some effects
 
 -- a row that has not finished a record is full
 pub record IsToForget (run : Run) (row : Contents) (delivery : Delivery) : Type 0 where

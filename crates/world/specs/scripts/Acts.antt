@@ -19,7 +19,8 @@ use Rattle.topology.specs.Folding.{RoutesView}
 use Rattle.topology.specs.Shapes.{Shape}
 use Rattle.row_parts.specs.Contents.{Contents, is_finished, cursor_in, found_delivery}
 use Rattle.run_history.specs.Cases.{CaseShape, intervals_of, record_of, source_of}
-use Rattle.run_history.specs.Legal.{floor_of, record_outcome, timer_outcome}
+use Rattle.computations.specs.Handlers.{OfRecord, OfTimer}
+use Rattle.run_history.specs.Legal.{floor_of, outcome_of}
 use Rattle.run_history.specs.Made.{row_written}
 use Rattle.run_history.specs.Marks.{own_work}
 use Rattle.run_history.specs.Runs.{run_of}
@@ -323,7 +324,7 @@ write_effects number world sending lease effects = let delivery = sending.delive
 abbrev pub write_under : CaseShape → ℕ → World → Sending → LeaseView → Deed
 write_under case number world sending lease = let name = sending.delivery.to in
     option_map_or (write_effects number world sending lease)
-    (record_outcome case name (row_known case.topology world lease name) sending.delivery.item)
+    (outcome_of case name (row_known case.topology world lease name) (OfRecord sending.delivery.item))
     (nothing world number)
 
 -- a worker writes a record that it has prepared for a row that it has
@@ -360,7 +361,7 @@ fire_effects number world mark due lease effects =
 -- a worker fires a timer, by the row as it knows it
 abbrev pub fire_under : CaseShape → ℕ → World → ℕ → RowName × Timer → LeaseView → Deed
 fire_under case number world mark due lease = option_map_or (fire_effects number world mark due lease)
-    (timer_outcome case due.0 (row_known case.topology world lease due.0) due.1) (nothing world number)
+    (outcome_of case due.0 (row_known case.topology world lease due.0) (OfTimer due.1)) (nothing world number)
 
 -- a worker fires a timer of a row that it has, where nothing is prepared
 abbrev pub fire_due : CaseShape → ℕ → World → ℕ → RowName × Timer → Deed

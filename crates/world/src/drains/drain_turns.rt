@@ -50,8 +50,7 @@ pub fn drain_turn<'a, K: Keeper, C: Computation>(
     work: &C,
     drain: &mut Drain,
 ) -> Result<bool, NodeFault>
-    requires work { IsWorkOf book.old.case.topology (C.has work.now)
-        (C.gives_record work.now) (C.gives_timer work.now) }
+    requires work { IsWorkOf book.old.case.topology (C.does work.now) }
     requires under_way { IsUnderWay book.old drain.old }
 
     ensures drained { IfOk result (HasDrained drain.old.from book.old book.new) }
@@ -79,8 +78,7 @@ fn turn_once<'a, K: Keeper, C: Computation>(
     work: &C,
     drain: &mut Drain,
 ) -> Result<bool, NodeFault>
-    requires work { IsWorkOf book.old.case.topology (C.has work.now)
-        (C.gives_record work.now) (C.gives_timer work.now) }
+    requires work { IsWorkOf book.old.case.topology (C.does work.now) }
     requires under_way { IsUnderWay book.old drain.old }
     ensures drained { IfOk result (HasDrained drain.old.from book.old book.new) }
     ensures under_way { OnOk result (IsUnderWay book.new drain.new) }
@@ -136,8 +134,7 @@ fn turn_next<'a, K: Keeper, C: Computation>(
     work: &C,
     drain: &mut Drain,
 ) -> Result<bool, NodeFault>
-    requires work { IsWorkOf book.old.case.topology (C.has work.now)
-        (C.gives_record work.now) (C.gives_timer work.now) }
+    requires work { IsWorkOf book.old.case.topology (C.does work.now) }
     requires past { IsPastClaims book.old drain.old }
     ensures drained { IfOk result (HasDrained drain.old.from book.old book.new) }
     ensures under_way { OnOk result (IsUnderWay book.new drain.new) }

@@ -29,8 +29,7 @@ pub fn drain<'a, K: Keeper, C: Computation>(
     book: &mut Book<'a, K>,
     work: &C,
 ) -> Result<(), NodeFault>
-    requires work { IsWorkOf book.old.case.topology (C.has work.now)
-        (C.gives_record work.now) (C.gives_timer work.now) }
+    requires work { IsWorkOf book.old.case.topology (C.does work.now) }
 
     ensures case { book.new.case ≡ book.old.case }
     ensures limit { book.new.limit ≡ book.old.limit }
@@ -72,8 +71,7 @@ fn turn_all<'a, K: Keeper, C: Computation>(
     work: &C,
     drain: &mut Drain,
 ) -> Result<(), NodeFault>
-    requires work { IsWorkOf book.old.case.topology (C.has work.now)
-        (C.gives_record work.now) (C.gives_timer work.now) }
+    requires work { IsWorkOf book.old.case.topology (C.does work.now) }
     requires under_way { IsUnderWay book.old drain.old }
     ensures gone { HasGone book.old book.new }
     ensures draining { WhereTold book.old (

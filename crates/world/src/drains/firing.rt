@@ -177,8 +177,7 @@ pub(crate) fn fire_first<'a, K: Keeper, C: Computation>(
     work: &C,
     held: &mut Holdings,
 ) -> Result<bool, NodeFault>
-    requires work { IsWorkOf book.old.case.topology (C.has work.now)
-        (C.gives_record work.now) (C.gives_timer work.now) }
+    requires work { IsWorkOf book.old.case.topology (C.does work.now) }
     requires at_work { IsAtWork book.old (worker_of held.old) }
     requires settled { IsSettled book.old.case book.old.history }
     requires exact { WhereTold book.old (AreExact book.old) }
@@ -209,8 +208,7 @@ fn fire<'a, K: Keeper, C: Computation>(
     held: &mut Holdings,
     part: u32,
 ) -> Result<bool, NodeFault>
-    requires work { IsWorkOf book.old.case.topology (C.has work.now)
-        (C.gives_record work.now) (C.gives_timer work.now) }
+    requires work { IsWorkOf book.old.case.topology (C.does work.now) }
     requires at_work { IsAtWork book.old (worker_of held.old) }
     requires part { IsComputation book.old.case.topology part }
     ensures asked { let case = book.old.case in
@@ -243,8 +241,7 @@ fn fire_found<'a, K: Keeper, C: Computation>(
     found: Option<RowTimer>,
     mark: u64,
 ) -> Result<bool, NodeFault>
-    requires work { IsWorkOf book.old.case.topology (C.has work.now)
-        (C.gives_record work.now) (C.gives_timer work.now) }
+    requires work { IsWorkOf book.old.case.topology (C.does work.now) }
     requires at_work { IsAtWork book.old (worker_of held.old) }
     requires part { IsComputation book.old.case.topology part }
     requires found { IsTimerToFire book.old.case.topology (worker_of held.old) part mark found }
@@ -276,8 +273,7 @@ fn fire_one<'a, K: Keeper, C: Computation>(
     found: &RowTimer,
     mark: u64,
 ) -> Result<bool, NodeFault>
-    requires work { IsWorkOf book.old.case.topology (C.has work.now)
-        (C.gives_record work.now) (C.gives_timer work.now) }
+    requires work { IsWorkOf book.old.case.topology (C.does work.now) }
     requires at_work { IsAtWork book.old (worker_of held.old) }
     requires part { IsComputation book.old.case.topology found.now.name.part }
     requires next { IsNextTimer book.old.case.topology (worker_of held.old) found.now.name.part mark

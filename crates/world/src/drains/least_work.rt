@@ -41,8 +41,7 @@ pub(crate) fn work_on<'a, K: Keeper, C: Computation>(
     id: RecordId,
     sender: &RowName,
 ) -> Result<bool, NodeFault>
-    requires work { IsWorkOf book.old.case.topology (C.has work.now)
-        (C.gives_record work.now) (C.gives_timer work.now) }
+    requires work { IsWorkOf book.old.case.topology (C.does work.now) }
     requires at_work { IsAtWork book.old (worker_of held.old) }
     requires least { let shape = book.old.case.topology in
         IsLeastSent shape (run_of shape book.old.history) id sender.now }
@@ -72,8 +71,7 @@ fn work_on_pending<'a, K: Keeper, C: Computation>(
     sender: &RowName,
     id: RecordId,
 ) -> Result<bool, NodeFault>
-    requires work { IsWorkOf book.old.case.topology (C.has work.now)
-        (C.gives_record work.now) (C.gives_timer work.now) }
+    requires work { IsWorkOf book.old.case.topology (C.does work.now) }
     requires at_work { IsAtWork book.old (worker_of held.old) }
     requires least { let shape = book.old.case.topology in
         IsLeastSent shape (run_of shape book.old.history) id sender.now }
@@ -101,8 +99,7 @@ fn work_on_sent<'a, K: Keeper, C: Computation>(
     sender: &RowName,
     delivery: Delivery,
 ) -> Result<bool, NodeFault>
-    requires work { IsWorkOf book.old.case.topology (C.has work.now)
-        (C.gives_record work.now) (C.gives_timer work.now) }
+    requires work { IsWorkOf book.old.case.topology (C.does work.now) }
     requires at_work { IsAtWork book.old (worker_of held.old) }
     requires least { let shape = book.old.case.topology in
         IsLeastSent shape (run_of shape book.old.history) delivery.id sender.now }

@@ -43,8 +43,7 @@ pub(crate) fn standing_of<'a, K: Keeper, C: Computation>(
     interval: u32,
     delivery: &Delivery,
 ) -> Result<Standing, NoMemory>
-    requires work { IsWorkOf book.now.case.topology (C.has work.now)
-        (C.gives_record work.now) (C.gives_timer work.now) }
+    requires work { IsWorkOf book.now.case.topology (C.does work.now) }
     requires at_work { IsAtWork book.now (worker_of held.now) }
     requires computation { IsComputation book.now.case.topology delivery.now.to.part }
     requires covers { interval_of book.now.case.topology delivery.now.to ≡ Some interval }
@@ -70,8 +69,7 @@ fn standing_in<'a, K: Keeper, C: Computation>(
     row: &Row,
     delivery: &Delivery,
 ) -> Result<Standing, NoMemory>
-    requires work { IsWorkOf book.now.case.topology (C.has work.now)
-        (C.gives_record work.now) (C.gives_timer work.now) }
+    requires work { IsWorkOf book.now.case.topology (C.does work.now) }
     requires there { IsStateThere book.now.case.topology delivery.now.to.part row.now.state }
     requires stamp { delivery.now.item.stamp ≤ MAX_STAMP }
     ensures stands { let run = run_of book.now.case.topology book.now.history in

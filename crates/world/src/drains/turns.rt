@@ -23,8 +23,7 @@ pub(crate) fn turn<'a, K: Keeper, C: Computation>(
     work: &C,
     held: &mut Holdings,
 ) -> Result<bool, NodeFault>
-    requires work { IsWorkOf book.old.case.topology (C.has work.now)
-        (C.gives_record work.now) (C.gives_timer work.now) }
+    requires work { IsWorkOf book.old.case.topology (C.does work.now) }
     requires at_work { IsAtWork book.old (worker_of held.old) }
     ensures turned { IfOk result (HasTurned book.old book.new) }
     ensures at_work { OnOk result (IsAtWork book.new (worker_of held.new)) }
@@ -49,8 +48,7 @@ fn go_on<'a, K: Keeper, C: Computation>(
     work: &C,
     held: &mut Holdings,
 ) -> Result<bool, NodeFault>
-    requires work { IsWorkOf book.old.case.topology (C.has work.now)
-        (C.gives_record work.now) (C.gives_timer work.now) }
+    requires work { IsWorkOf book.old.case.topology (C.does work.now) }
     requires at_work { IsAtWork book.old (worker_of held.old) }
     requires settled { IsSettled book.old.case book.old.history }
     ensures turned { IfOk result (HasTurned book.old book.new) }
@@ -73,8 +71,7 @@ fn fire_or_inject<'a, K: Keeper, C: Computation>(
     work: &C,
     held: &mut Holdings,
 ) -> Result<bool, NodeFault>
-    requires work { IsWorkOf book.old.case.topology (C.has work.now)
-        (C.gives_record work.now) (C.gives_timer work.now) }
+    requires work { IsWorkOf book.old.case.topology (C.does work.now) }
     requires at_work { IsAtWork book.old (worker_of held.old) }
     requires settled { IsSettled book.old.case book.old.history }
     requires exact { WhereTold book.old (AreExact book.old) }

@@ -72,8 +72,7 @@ pub(crate) fn receive<'a, K: Keeper, C: Computation>(
     message: Message<NoNote>,
 ) -> Result<Outcome, NodeFault>
     requires fits { FitsOwn book.old node.old }
-    requires work { IsWorkOf book.old.case.topology (C.has work.now)
-        (C.gives_record work.now) (C.gives_timer work.now) }
+    requires work { IsWorkOf book.old.case.topology (C.does work.now) }
     requires sent { IsOutgoing book.old.case (own_view book.old) (outgoing_of message) }
     requires takes { answered_in_place book.old.case.topology
         (worker_at node.old) (outgoing_of message)
@@ -103,8 +102,7 @@ fn handle<'a, K: Keeper, C: Computation>(
     parcel: Parcel<NoNote>,
 ) -> Result<Outcome, NodeFault>
     requires fits { FitsOwn book.old node.old }
-    requires work { IsWorkOf book.old.case.topology (C.has work.now)
-        (C.gives_record work.now) (C.gives_timer work.now) }
+    requires work { IsWorkOf book.old.case.topology (C.does work.now) }
     requires sent { IsOutgoing book.old.case (own_view book.old)
         (outgoing_of (messages.Deliver parcel)) }
     requires takes { answered_in_place book.old.case.topology (worker_at node.old)

@@ -109,8 +109,7 @@ pub(crate) fn fire<'a, K: Keeper, C: Computation>(
     part: u32,
 ) -> Result<Outcome, NodeFault>
     requires fits { FitsOwn book.old node.old }
-    requires work { IsWorkOf book.old.case.topology (C.has work.now)
-        (C.gives_record work.now) (C.gives_timer work.now) }
+    requires work { IsWorkOf book.old.case.topology (C.does work.now) }
     requires part { IsComputation book.old.case.topology part }
     ensures called { HasCalled book.old book.new node.old node.new }
     ensures acted { IfOk result (ActsOn (Step.Fire node.old.number part)

@@ -56,7 +56,7 @@ impl<'a, K: Keeper, C: Computation + Drop> Model for World<'a, K, C> {
       relays = w.relays.items;
       routes = w.routes;
     })
-        × IsWorkOf w.book.case.topology (C.has w.work) (C.gives_record w.work) (C.gives_timer w.work) };
+        × IsWorkOf w.book.case.topology (C.does w.work) };
 }
 
 /// Want of memory, where a world was to start: what was handed in is handed back, but for the routes.
@@ -78,8 +78,7 @@ impl<'a, K: Keeper, C: Computation + Drop> World<'a, K, C> {
         work: C,
         routes: Routes,
     ) -> Result<World<'a, K, C>, WorldRefusal<'a, K, C>>
-        requires work { IsWorkOf book.case.topology
-            (C.has work) (C.gives_record work) (C.gives_timer work) }
+        requires work { IsWorkOf book.case.topology (C.does work) }
         requires folding { IsFolding book.case.topology routes }
 
         ensures routes { IfOk result (λ world. world.routes ≡ routes) }

@@ -273,8 +273,7 @@ fn call_alone<'a, K: Keeper, C: Computation>(
     step: &Step,
 ) -> Result<Outcome, NodeFault>
     requires fits { FitsOwn book.old node.old }
-    requires work { IsWorkOf book.old.case.topology (C.has work.now)
-        (C.gives_record work.now) (C.gives_timer work.now) }
+    requires work { IsWorkOf book.old.case.topology (C.does work.now) }
     requires step { (weaks : ℕ) × IsStep book.old.case.topology weaks step.now }
     requires alone { IsAlone node.old.number step.now }
     ensures called { HasCalled book.old book.new node.old node.new }

@@ -1,6 +1,6 @@
 //! The example of two lines: its case, and the computations of that case.
 ghost use Rattle.std.specs.Prelude.{◌≡◌};
-ghost use Rattle.computations.specs.Parts.{HasState, part_record, part_timer};
+ghost use Rattle.computations.specs.Parts.{part_doings};
 ghost use Rattle.topology.specs.Shapes.{injectors_of};
 ghost use Rattle.node.specs.Works.{IsWorkOf};
 ghost use Rattle.worked_examples.specs.Rising.{rise_case};
@@ -26,8 +26,7 @@ pub(crate) struct Example {
 impl Example {
     // The computations, which do what a worker asks of them.
     pub(crate) fn work(&self) -> &Kinds
-        ensures { IsWorkOf self.now.case.topology
-            (HasState result.now) (part_record result.now) (part_timer result.now) }
+        ensures { IsWorkOf self.now.case.topology (part_doings result.now) }
     {
         &self.work
     }

@@ -72,10 +72,10 @@ fn of_record<C: Computation>(
     state: &State,
     item: &Record,
 ) -> Effects
-    requires computation { C.has work.now part state.now }
+    requires computation { (C.does work.now).has part state.now }
     requires within { IsWithin state.now }
     requires in_time { item.now.stamp ≤ MAX_STAMP }
-    ensures has { C.has work.now part result.state }
+    ensures has { (C.does work.now).has part result.state }
     ensures within { IsWithin result.state }
 {
     let mut context = made(rt, Context::for_record(alloc, key, state, item));
@@ -93,10 +93,10 @@ fn of_timer<C: Computation>(
     state: &State,
     timer: &Timer,
 ) -> Effects
-    requires computation { C.has work.now part state.now }
+    requires computation { (C.does work.now).has part state.now }
     requires within { IsWithin state.now }
     requires in_time { timer.now.time ≤ MAX_STAMP }
-    ensures has { C.has work.now part result.state }
+    ensures has { (C.does work.now).has part result.state }
     ensures within { IsWithin result.state }
 {
     let mut context = made(rt, Context::for_timer(alloc, key, state, timer));

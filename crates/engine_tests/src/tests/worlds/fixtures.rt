@@ -1,7 +1,7 @@
 //! Topologies and worlds of the tests.
 ghost use Rattle.std.specs.Prelude.{◌≤◌, ◌^◌};
 ghost use Rattle.node.specs.Works.{IsWorkOf};
-ghost use Rattle.computations.specs.Parts.{HasState, part_record, part_timer};
+ghost use Rattle.computations.specs.Parts.{part_doings};
 ghost use Rattle.world.specs.scripts.WorldStates.{IsFolding};
 
 use crate::tests::made;
@@ -45,8 +45,7 @@ pub const MOST: u64 = 1 << 32;
 
 // The computations of a case.
 fn work(rt: &impl Abort, alloc: Global, case: &Case) -> Kinds
-    ensures { IsWorkOf case.now.topology
-        (HasState result) (part_record result) (part_timer result) }
+    ensures { IsWorkOf case.now.topology (part_doings result) }
 {
     match Kinds::of(alloc, &case.topology) {
         Ok(kinds) => kinds,

@@ -2,7 +2,7 @@
 ghost use Rattle.std.specs.Prelude.{◌≡◌, All, IfOk, length};
 ghost use Rattle.topology.specs.Shapes.{injectors_of};
 ghost use Rattle.node.specs.Works.{IsWorkOf};
-ghost use Rattle.computations.specs.Parts.{HasState, part_record, part_timer};
+ghost use Rattle.computations.specs.Parts.{part_doings};
 ghost use Rattle.plans.specs.Steps.{IsStep};
 ghost use Rattle.world.specs.scripts.WorldStates.{IsFolding};
 
@@ -60,8 +60,7 @@ fn case(rt: &impl Abort, alloc: Global) -> (Case, Routes)
 
 // The computations of a case.
 fn work(alloc: Global, case: &Case) -> Result<Kinds, NoMemory>
-    ensures { IfOk result (λ kinds. IsWorkOf case.now.topology
-        (HasState kinds) (part_record kinds) (part_timer kinds)) }
+    ensures { IfOk result (λ kinds. IsWorkOf case.now.topology (part_doings kinds)) }
 {
     match Kinds::of(alloc, &case.topology) {
         Ok(kinds) => Ok(kinds),

@@ -13,8 +13,7 @@ use Rattle.task_runs.proofs.runs.run_work.Goals as goal
 pub run_book-requires-clause-work : goal.run_book-requires-clause-work
 run_book-requires-clause-work g c =
     let work = c.args.work in
-    subst (λ (case : CaseShape). IsWorkOf case.topology (g.C.Computation.has work) (g.C.Computation.gives_record work)
-    (g.C.Computation.gives_timer work)) (sym c.in-Ok.ensures.case) c.requires.work
+    subst (λ (case : CaseShape). IsWorkOf case.topology (g.C.Computation.does work)) (sym c.in-Ok.ensures.case) c.requires.work
 
 pub run_book-requires-clause-marks : goal.run_book-requires-clause-marks
 run_book-requires-clause-marks g c =

@@ -6,7 +6,7 @@ use Rattle.mw_types.specs.declared.record.Record.{Record}
 use Rattle.mw_types.specs.declared.delivery.Delivery.{Delivery}
 use Rattle.mw_types.specs.Outcomes.{EffectsView}
 use Rattle.run_history.specs.Runs.{row_of}
-use Rattle.run_history.specs.Legal.{record_outcome}
+use Rattle.run_history.specs.Legal.{outcome_of}
 use Rattle.worked_examples.specs.First.{key_a, window, counts}
 use Rattle.worked_examples.specs.Wide.{wide_case, wide_after, count_row, key_h, key_h_x, left_second, counts_late, MayNotFollow, right_handled, late_handled_in_time, late_injected_in_time}
 use Rattle.worked_examples.proofs.wide.wide_example_refuses.Goals as goal
@@ -34,7 +34,7 @@ in_time may =
     let waits : Some left_second ≡ Some may.delivery.item = ap (option_map (λ (d : Delivery). d.item)) may.waits in
     let item : left_second ≡ may.delivery.item = ap (λ (o : Option Record). unwrap_or o left_second) waits in
     let does : Some counts_late ≡ Some (counts (window 60 2 ∷ []) 60) =
-    ap (record_outcome wide_case (count_row key_a) (row_of wide_case.topology (wide_after 10) (count_row key_a))) item ∙ may.does in
+    ap (outcome_of wide_case (count_row key_a) (row_of wide_case.topology (wide_after 10) (count_row key_a))) item ∙ may.does in
     let counted : 0 ≡ 1 = ap timer_count does in
     absurd (omega (arith, counted))
 

@@ -12,7 +12,8 @@ use Rattle.mw_types.specs.declared.identity.RowName.{RowName}
 use Rattle.mw_types.specs.declared.timer.Timer.{Timer}
 use Rattle.topology.specs.Shapes.{Shape}
 use Rattle.run_history.specs.Cases.{CaseShape}
-use Rattle.run_history.specs.Legal.{timer_outcome}
+use Rattle.computations.specs.Handlers.{OfTimer}
+use Rattle.run_history.specs.Legal.{outcome_of}
 use Rattle.run_history.specs.Watermarks.{least}
 use Rattle.watermark.specs.Marks.{marks_of}
 use Rattle.book.specs.Books.{BookView, LeaseView}
@@ -98,12 +99,12 @@ held-least case old world number was part due acting least =
 due-is : (case : CaseShape) (old : BookView) (world : World) (number : ℕ) (was : NodeView) (mark : ℕ) (due : RowName × Timer)
     (held : HeldView) → IsActing case old world number was → was.prepared ≡ None → held_on case.topology was.held due.0 ≡ Some held
     → fire_due case number world mark due ≡ option_map_or (fire_effects number world mark due held.lease)
-    (timer_outcome case due.0 (row_held case.topology held due.0) due.1) (nothing world number)
+    (outcome_of case due.0 (row_held case.topology held due.0) (OfTimer due.1)) (nothing world number)
 due-is case old world number was mark due held acting free on =
     ap (λ o. if is_some o then nothing world number else at_lease (lease_on case.topology (worker_of world number) due.0))
     (worker-free case old world number was acting free)
     ∙ ap at_lease (lease_on-held case old world number was due.0 acting ∙ ap (option_map lease_held) on)
-    ∙ ap (λ row. option_map_or (fire_effects number world mark due held.lease) (timer_outcome case due.0 row due.1)
+    ∙ ap (λ row. option_map_or (fire_effects number world mark due held.lease) (outcome_of case due.0 row (OfTimer due.1))
     (nothing world number)) (row-held case old world number was held due.0 acting on)
   where
     at_lease : Option LeaseView → Deed
@@ -143,7 +144,7 @@ none-is case old world number was part acting never =
 
     by_effects : (due : RowName × Timer) → nat_le due.1.time mark ≡ true → was.prepared ≡ None
         → (is : IsLeastHeld case.topology was part due) → (o : Option EffectsView)
-        → timer_outcome case due.0 (row_held case.topology is.set.held due.0) due.1 ≡ o
+        → outcome_of case due.0 (row_held case.topology is.set.held due.0) (OfTimer due.1) ≡ o
         → option_map_or (fire_effects number world mark due is.set.held.lease) o (nothing world number) ≡ nothing world number
     by_effects due within free is None does = refl
     by_effects due within free is (Some effects) does = absurd (never (record {
@@ -167,7 +168,7 @@ none-is case old world number was part acting never =
         (nothing world number)) (ap (λ (w : Worker). w.prepared) (acting-worker case old world number was acting) ∙ there)
     by_prepared due within is None there = let free = free-none case (own_view old) was acting.fits there in
         due-is case old world number was mark due is.set.held acting free is.set.there
-        ∙ by_effects due within free is (timer_outcome case due.0 (row_held case.topology is.set.held due.0) due.1) refl
+        ∙ by_effects due within free is (outcome_of case due.0 (row_held case.topology is.set.held due.0) (OfTimer due.1)) refl
 
     by_due : (due : RowName × Timer) → IsLeastHeld case.topology was part due → (b : Bool) → nat_le due.1.time mark ≡ b
         → option_map_or (fire_due case number world mark) (if b then Some due else None) (nothing world number)

@@ -8,7 +8,8 @@ use Rattle.mw_types.specs.declared.entry.Entry.TheVariants as entries
 use Rattle.mw_types.specs.declared.identity.RowName.{RowName}
 use Rattle.topology.specs.Shapes.{Shape}
 use Rattle.run_history.specs.Cases.{CaseShape}
-use Rattle.run_history.specs.Legal.{record_outcome}
+use Rattle.computations.specs.Handlers.{OfRecord}
+use Rattle.run_history.specs.Legal.{outcome_of}
 use Rattle.book.specs.Books.{BookView, LeaseView}
 use Rattle.book.specs.OwnDesks.{own_view}
 use Rattle.book.specs.declared.proposal.Proposal.{Proposal}
@@ -35,7 +36,7 @@ effects_by number world worker sending lease effects = let delivery = sending.de
 abbrev under_by : CaseShape → ℕ → World → Worker → Sending → LeaseView → Deed
 under_by case number world worker sending lease = let name = sending.delivery.to in
     option_map_or (effects_by number world worker sending lease)
-    (record_outcome case name (row_known case.topology world lease name) sending.delivery.item) (nothing world number)
+    (outcome_of case name (row_known case.topology world lease name) (OfRecord sending.delivery.item)) (nothing world number)
 
 -- under the lease of the row
 abbrev prepared_by : CaseShape → ℕ → World → Worker → Sending → Deed
@@ -58,7 +59,7 @@ handled-is case old world number was sender delivery effects acting handled =
     (ap (λ w. lease_on shape w delivery.to) (sym (acting-worker case old world number was acting))
     ∙ lease_on-held case old world number was delivery.to acting ∙ ap (option_map lease_held) handled.there)
     ∙ ap (λ o. option_map_or (effects_by number world worker sending handled.held.lease) o (nothing world number))
-    (ap (λ row. record_outcome case delivery.to row delivery.item)
+    (ap (λ row. outcome_of case delivery.to row (OfRecord delivery.item))
     (row-held case old world number was handled.held delivery.to acting handled.there) ∙ handled.handling.does)
     ∙ ap (deed_asked world number (with_written (Some sending) worker))
     (ap (option_map (handled_as delivery effects)) (sym handled.there))
