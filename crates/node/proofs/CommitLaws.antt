@@ -112,8 +112,7 @@ handled-last seen before seq name id effects appended =
 
 -- what a work that was written leaves of a node
 abbrev pub written_by : Shape → List (Option HeldView) → RowName → Delivery → EffectsView → ℕ → NodeView → NodeView
-written_by shape held sender delivery effects commit node = record {
-  number = node.number;
+written_by shape held sender delivery effects commit node = record node {
   held = held;
   prepared = None;
   outbox = (node.outbox ++ outgoing.Ack sender delivery.id ∷ [])

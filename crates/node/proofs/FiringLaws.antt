@@ -131,10 +131,8 @@ grown-fired shape old new interval name timer mark effects commit before after h
 
 -- what a timer that fired leaves of a node
 abbrev pub fired_by : Shape → List (Option HeldView) → RowName → Timer → EffectsView → ℕ → NodeView → NodeView
-fired_by shape held name timer effects commit node = record {
-  number = node.number;
+fired_by shape held name timer effects commit node = record node {
   held = held;
-  prepared = node.prepared;
   outbox = node.outbox ++ messages_from name (deliveries_made shape name.part effects.productions timer.late commit);
 }
 

@@ -179,10 +179,8 @@ works-apart case old new before after interval part line commit (Some work) more
 
 -- what an injected line leaves of a node
 abbrev pub injected_by : Shape → List (Option HeldView) → ℕ → Record → ℕ → NodeView → NodeView
-injected_by shape held part item commit node = record {
-  number = node.number;
+injected_by shape held part item commit node = record node {
   held = held;
-  prepared = node.prepared;
   outbox = node.outbox ++ messages_from (injector_row part) (line_deliveries shape part item commit);
 }
 

@@ -46,9 +46,9 @@ pub node-written : (shape : Shape) (held : List (Option HeldView)) (sender : Row
     → outbox ≡ (node.outbox ++ outgoing.Ack sender delivery.id ∷ [])
     ++ messages_from delivery.to (deliveries_made shape delivery.to.part effects.productions delivery.item.late commit)
     → written_by shape held sender delivery effects commit node
-    ≡ record { number = node.number; held = held; prepared = prepared; outbox = outbox }
+    ≡ record node { held = held; prepared = prepared; outbox = outbox }
 node-written shape held sender delivery effects commit node prepared outbox gone is =
-    λ i. record { number = node.number; held = held; prepared = sym gone i; outbox = sym is i }
+    λ i. record node { held = held; prepared = sym gone i; outbox = sym is i }
 
 -- ---- an entry that stands
 

@@ -15,7 +15,7 @@ use Rattle.node.specs.Fits.{Fits}
 use Rattle.node.specs.LineSteps.{HoldsLine, IsLineNext, line_deliveries}
 use Rattle.outbox.specs.Messages.{IsAddressed, messages_from}
 use Rattle.node.specs.Workers.{NodeView, worker_at}
-use Rattle.node.proofs.FitLaws.{Fits-kept, Fits-yielded, keeps-refused, more-looked, worker-kept}
+use Rattle.node.proofs.FitLaws.{Fits-kept, Fits-yielded, keeps-refused, more-looked, node_in, worker-kept}
 use Rattle.node.proofs.LineLaws.{Fits-injected, answers-injected, answers-uninjected, fails-uninjected, grown-line, next-line}
 use Rattle.node.proofs.node.Node.inject_line.Goals as goal
 
@@ -24,12 +24,7 @@ pub write_line-written-requires-clause-next : goal.write_line-written-requires-c
 write_line-written-requires-clause-next g c =
     let case = c.args.case.now in
     let interval = c.interval_of-interval.result in
-    let node : NodeView = record {
-      number = c.self.inside.number;
-      held = c.self.inside.held;
-      prepared = c.self.inside.prepared;
-      outbox = c.self.inside.outbox.messages;
-    } in
+    let node : NodeView = node_in c.self.inside in
     next-line case node c.args.part c.args.line interval c.args.name.now c.requires.name
     (subst (λ (n : NodeView). IsLineNext case n c.args.part c.args.line) (sym c.self.view_is) c.requires.next)
     c.interval_of-interval.ensures.interval
@@ -46,12 +41,7 @@ returns-in-Ok-clause-fits g c =
     let interval = c.interval_of-interval.result in
     let old = g.D.Desk.view c.args.desk.now in
     let new = g.D.Desk.view c.write_line-written.new.desk in
-    let node : NodeView = record {
-      number = c.self.inside.number;
-      held = c.self.inside.held;
-      prepared = c.self.inside.prepared;
-      outbox = c.self.inside.outbox.messages;
-    } in
+    let node : NodeView = node_in c.self.inside in
     let fits : Fits case old node = subst (Fits case old) (sym c.self.view_is) c.requires.fits in
     let next = subst (λ (n : NodeView). IsLineNext case n part line) (sym c.self.view_is) c.requires.next in
     let named = c.requires.name in
@@ -66,12 +56,7 @@ returns-in-Ok-clause-fits g c =
     (messages_from c.args.name.now (line_deliveries t c.args.name.now.part item number))) topology c.in_ok-made.ensures.addressed) in
     let written = subst (λ (n : RowName). HoldsLine shape old new interval n line commit node.held c.write_line-written.new.held) named
     c.in-Ok.ensures.injected in
-    subst (λ (l : List Outgoing). Fits case new (record {
-      number = node.number;
-      held = c.write_line-written.new.held;
-      prepared = node.prepared;
-      outbox = l;
-    })) (sym out)
+    subst (λ (l : List Outgoing). Fits case new (record node { held = c.write_line-written.new.held; outbox = l })) (sym out)
     (Fits-injected case old new node interval part line item commit c.write_line-written.new.held c.in_ok-item.ensures.item
     written c.in-Ok.ensures.fits next.injector c.sound.ensures.sound addressed fits)
 
@@ -86,12 +71,7 @@ returns-in-Ok-clause-answers g c =
     let interval = c.interval_of-interval.result in
     let old = g.D.Desk.view c.args.desk.now in
     let new = g.D.Desk.view c.write_line-written.new.desk in
-    let node : NodeView = record {
-      number = c.self.inside.number;
-      held = c.self.inside.held;
-      prepared = c.self.inside.prepared;
-      outbox = c.self.inside.outbox.messages;
-    } in
+    let node : NodeView = node_in c.self.inside in
     let fits : Fits case old node = subst (Fits case old) (sym c.self.view_is) c.requires.fits in
     let next = subst (λ (n : NodeView). IsLineNext case n part line) (sym c.self.view_is) c.requires.next in
     let named = c.requires.name in
@@ -103,12 +83,7 @@ returns-in-Ok-clause-answers g c =
     let written = subst (λ (n : RowName). HoldsLine shape old new interval n line commit node.held c.write_line-written.new.held) named
     c.in-Ok.ensures.injected in
     let covers = subst (λ (n : RowName). interval_of shape n ≡ Some interval) named c.interval_of-interval.ensures.interval in
-    let left : List Outgoing → NodeView = λ l. record {
-      number = node.number;
-      held = c.write_line-written.new.held;
-      prepared = node.prepared;
-      outbox = l;
-    } in
+    let left : List Outgoing → NodeView = λ l. record node { held = c.write_line-written.new.held; outbox = l } in
     subst (λ (n : NodeView). AnswersAsked shape old new (line_asked case n part) (worker_at n) n (left c.write_line-written.new.outbox.messages)
     (outcomes.Committed commit)) c.self.view_is
     (subst (λ (l : List Outgoing). AnswersAsked shape old new (line_asked case node part) (worker_at node) node (left l)
@@ -132,17 +107,10 @@ returns-in-Err-clause-fits g c =
     let case = c.args.case.now in
     let old = g.D.Desk.view c.args.desk.now in
     let new = g.D.Desk.view c.write_line-written.new.desk in
-    let node : NodeView = record {
-      number = c.self.inside.number;
-      held = c.self.inside.held;
-      prepared = c.self.inside.prepared;
-      outbox = c.self.inside.outbox.messages;
-    } in
+    let node : NodeView = node_in c.self.inside in
     let fits : Fits case old node = subst (Fits case old) (sym c.self.view_is) c.requires.fits in
-    let mid : NodeView = record {
-      number = node.number;
+    let mid : NodeView = record node {
       held = c.write_line-written.new.held;
-      prepared = node.prepared;
       outbox = c.write_line-written.new.outbox.messages;
     } in
     Fits-yielded case new c.interval_of-interval.result c.in-Err.why mid c.yield_to.new.self c.yield_to.ensures.left
@@ -157,16 +125,9 @@ returns-in-Err-clause-answers g c =
     let interval = c.interval_of-interval.result in
     let was = c.args.self.now in
     let after = c.yield_to.new.self in
-    let node : NodeView = record {
-      number = c.self.inside.number;
-      held = c.self.inside.held;
-      prepared = c.self.inside.prepared;
-      outbox = c.self.inside.outbox.messages;
-    } in
-    let mid : NodeView = record {
-      number = node.number;
+    let node : NodeView = node_in c.self.inside in
+    let mid : NodeView = record node {
       held = c.write_line-written.new.held;
-      prepared = node.prepared;
       outbox = c.write_line-written.new.outbox.messages;
     } in
     let kept : HasKept was mid = worker-kept case.topology node mid c.in-Err.ensures.kept refl c.in-Err.ensures.unsent
@@ -183,16 +144,9 @@ pub returns-in-Err-clause-kept : goal.returns-in-Err-clause-kept
 returns-in-Err-clause-kept g c =
     let case = c.args.case.now in
     let was = c.args.self.now in
-    let node : NodeView = record {
-      number = c.self.inside.number;
-      held = c.self.inside.held;
-      prepared = c.self.inside.prepared;
-      outbox = c.self.inside.outbox.messages;
-    } in
-    let mid : NodeView = record {
-      number = node.number;
+    let node : NodeView = node_in c.self.inside in
+    let mid : NodeView = record node {
       held = c.write_line-written.new.held;
-      prepared = node.prepared;
       outbox = c.write_line-written.new.outbox.messages;
     } in
     let kept : HasKept was mid = worker-kept case.topology node mid c.in-Err.ensures.kept refl c.in-Err.ensures.unsent

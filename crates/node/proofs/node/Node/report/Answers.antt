@@ -11,7 +11,7 @@ use Rattle.node.specs.Answers.{AnswersReport, FailsReport}
 use Rattle.node.specs.Fits.{Fits}
 use Rattle.node.specs.Steps.{HasYielded}
 use Rattle.node.specs.Workers.{NodeView}
-use Rattle.node.proofs.FitLaws.{Fits-yielded}
+use Rattle.node.proofs.FitLaws.{Fits-yielded, node_in}
 use Rattle.node.proofs.OutLaws.{Fits-looked}
 use Rattle.node.proofs.ReportLaws.{marked, memory-alone, reason-held, unreported-at, with_held}
 use Rattle.node.proofs.node.Node.report.Goals as goal
@@ -23,12 +23,7 @@ returns-in-Ok-clause-fits g c =
     let old = g.D.Desk.view c.args.desk.now in
     let new = g.D.Desk.view c.report_work-reported.new.desk in
     let was = c.args.self.now in
-    let node : NodeView = record {
-      number = c.self.inside.number;
-      held = c.report_work-reported.new.held;
-      prepared = c.self.inside.prepared;
-      outbox = c.self.inside.outbox.messages;
-    } in
+    let node : NodeView = record (node_in c.self.inside) { held = c.report_work-reported.new.held } in
     let same : node ≡ was = ap (λ (h : List (Option HeldView)). with_held h c.self.inside.number c.self.inside.prepared
     c.self.inside.outbox.messages)
     c.report_work-reported.ensures.same ∙ c.self.view_is in
@@ -41,12 +36,7 @@ returns-in-Ok-clause-answers g c =
     let old = g.D.Desk.view c.args.desk.now in
     let new = g.D.Desk.view c.report_work-reported.new.desk in
     let was = c.args.self.now in
-    let node : NodeView = record {
-      number = c.self.inside.number;
-      held = c.report_work-reported.new.held;
-      prepared = c.self.inside.prepared;
-      outbox = c.self.inside.outbox.messages;
-    } in
+    let node : NodeView = record (node_in c.self.inside) { held = c.report_work-reported.new.held } in
     let same : node ≡ was = ap (λ (h : List (Option HeldView)). with_held h c.self.inside.number c.self.inside.prepared
     c.self.inside.outbox.messages)
     c.report_work-reported.ensures.same ∙ c.self.view_is in
@@ -68,12 +58,7 @@ returns-in-Err-clause-fits g c =
     let old = g.D.Desk.view c.args.desk.now in
     let new = g.D.Desk.view c.report_work-reported.new.desk in
     let was = c.args.self.now in
-    let node : NodeView = record {
-      number = c.self.inside.number;
-      held = c.report_work-reported.new.held;
-      prepared = c.self.inside.prepared;
-      outbox = c.self.inside.outbox.messages;
-    } in
+    let node : NodeView = record (node_in c.self.inside) { held = c.report_work-reported.new.held } in
     let same : node ≡ was = ap (λ (h : List (Option HeldView)). with_held h c.self.inside.number c.self.inside.prepared
     c.self.inside.outbox.messages)
     c.report_work-reported.ensures.same ∙ c.self.view_is in
@@ -86,12 +71,7 @@ returns-in-Err-clause-answers g c =
     let old = g.D.Desk.view c.args.desk.now in
     let new = g.D.Desk.view c.report_work-reported.new.desk in
     let was = c.args.self.now in
-    let node : NodeView = record {
-      number = c.self.inside.number;
-      held = c.report_work-reported.new.held;
-      prepared = c.self.inside.prepared;
-      outbox = c.self.inside.outbox.messages;
-    } in
+    let node : NodeView = record (node_in c.self.inside) { held = c.report_work-reported.new.held } in
     let same : node ≡ was = ap (λ (h : List (Option HeldView)). with_held h c.self.inside.number c.self.inside.prepared
     c.self.inside.outbox.messages)
     c.report_work-reported.ensures.same ∙ c.self.view_is in
@@ -112,12 +92,7 @@ returns-in-Err-clause-fault g c =
     let old = g.D.Desk.view c.args.desk.now in
     let new = g.D.Desk.view c.report_work-reported.new.desk in
     let was = c.args.self.now in
-    let node : NodeView = record {
-      number = c.self.inside.number;
-      held = c.report_work-reported.new.held;
-      prepared = c.self.inside.prepared;
-      outbox = c.self.inside.outbox.messages;
-    } in
+    let node : NodeView = record (node_in c.self.inside) { held = c.report_work-reported.new.held } in
     let same : node ≡ was = ap (λ (h : List (Option HeldView)). with_held h c.self.inside.number c.self.inside.prepared
     c.self.inside.outbox.messages)
     c.report_work-reported.ensures.same ∙ c.self.view_is in

@@ -6,6 +6,7 @@ use Rattle.node.specs.Fits.{Fits}
 use Rattle.outbox.specs.Messages.{IsOutgoing}
 use Rattle.node.specs.Workers.{NodeView, WorkView}
 use Rattle.outbox.specs.declared.outgoing.Outgoing.TheVariants as outgoing
+use Rattle.node.proofs.FitLaws.{node_in}
 use Rattle.node.proofs.CopyLaws.{handled-held}
 use Rattle.node.proofs.ReceiveLaws.{Fits-again, Fits-new}
 use Rattle.node.proofs.node.Node.take_in.Goals as goal
@@ -14,7 +15,7 @@ use Rattle.node.proofs.node.Node.take_in.Goals as goal
 pub returns-then-is_finished-clause-fits : goal.returns-then-is_finished-clause-fits
 returns-then-is_finished-clause-fits g c = λ desk sound fits sent.
     let case = c.args.case.now in
-    let node : NodeView = record { number = c.self.inside.number; held = c.self.inside.held; prepared = c.self.inside.prepared; outbox = c.self.inside.outbox.messages } in
+    let node : NodeView = node_in c.self.inside in
     let was : Fits case desk node = subst (Fits case desk) (sym c.self.view_is) fits in
     let there : held_on case.topology node.held c.args.delivery.to ≡ Some c.in-Some.held.now =
     ap (option_and_then (held_at node.held)) c.interval_of-interval.ensures.interval ∙ sym c.in-Some.ensures.held in
@@ -29,7 +30,7 @@ returns-then-is_finished-clause-fits g c = λ desk sound fits sent.
 pub returns-in-Ok-clause-fits : goal.returns-in-Ok-clause-fits
 returns-in-Ok-clause-fits g c = λ desk sound fits sent.
     let case = c.args.case.now in
-    let node : NodeView = record { number = c.self.inside.number; held = c.self.inside.held; prepared = c.self.inside.prepared; outbox = c.self.inside.outbox.messages } in
+    let node : NodeView = node_in c.self.inside in
     let was : Fits case desk node = subst (Fits case desk) (sym c.self.view_is) fits in
     let there : held_on case.topology node.held c.args.delivery.to ≡ Some c.in-Some.held.now =
     ap (option_and_then (held_at node.held)) c.interval_of-interval.ensures.interval ∙ sym c.in-Some.ensures.held in
