@@ -19,7 +19,7 @@ use Rattle.mw_types.specs.declared.entry.Entry.TheVariants.{Claim, Inject, Handl
 use Rattle.mw_types.specs.Outcomes.{EffectsView}
 use Rattle.topology.specs.declared.subscription.Subscription.{Subscription}
 use Rattle.topology.specs.Shapes.{Shape, injectors_of, parts_of, kind_of}
-use Rattle.computations.specs.Handlers.{has_kind, fresh_state, unchanged, outcome_with_timer, outcome_with_record, one_more, window_end, counted, window_due, count_timer, due_time, held_with, total_due, is_spike, known_with, spike_timer, effects_of, OfRecord, OfTimer}
+use Rattle.computations.specs.Handlers.{Cause, has_kind, fresh_state}
 use Rattle.row_parts.specs.Contents.{Contents, same_id, cursor_in}
 use Rattle.run_history.specs.Cases.{CaseShape, is_injector, source_of, fresh_of}
 use Rattle.run_history.specs.Made.{row_written, late_cause, productions_of, deliveries_of, deliveries_made}
@@ -32,65 +32,9 @@ use Rattle.history_laws.proofs.Along.{along_history}
 use Rattle.history_laws.proofs.Made.{deliveries_made-each}
 use Rattle.history_laws.proofs.FeedLaws.{consumers-there, injector-no_kind}
 use Rattle.history_laws.proofs.IdLaws.{next-length}
-use Rattle.history_laws.proofs.PendingLaws.{was_some}
+use Rattle.history_laws.proofs.Caused.{IsCaused, caused-handle, caused-fire, caused-no_injector}
 use Rattle.history_laws.proofs.RowSteps.{row_of-step, pending-in_order, row_of-in_order}
 use Rattle.history_laws.proofs.UnfinishedLaws.{legal-within}
-
--- ---- handlers keep the kind of a state
-
--- a window that closes keeps the kind
-count_timer-kind : (size : ℕ) (key : List ℕ) (late : ℕ) (windows : List Window) (due : Option Window)
-    → has_kind (kinds.Count size) (count_timer key late windows due).state ≡ true
-count_timer-kind size key late windows None = refl
-count_timer-kind size key late windows (Some due) = refl
-
--- a total that is due keeps the kind
-spike_timer-kind : (last times : ℕ) (key : List ℕ) (late : ℕ) (held : List HeldTotal) (known : List ℤ) (due : Option HeldTotal)
-    → has_kind (kinds.Spike last times) (spike_timer last times key late held known due).state ≡ true
-spike_timer-kind last times key late held known None = refl
-spike_timer-kind last times key late held known (Some due) =
-    let state = states.Spike late (filter (λ h. not (h.stamp == due.stamp)) held) (known_with last known due.value) in
-    elim (is_spike last times known due.value) as (λ b. has_kind (kinds.Spike last times)
-    (cond b (outcome_with_record state key (due_time due.stamp) due.value) (unchanged state)).state
-    ≡ true) [ true ↦ refl | false ↦ refl ]
-
--- a record keeps the kind
-record-kind : (kind : Kind) (key : List ℕ) (state : State) (item : Record) → has_kind kind state ≡ true
-    → has_kind kind (effects_of kind key state (OfRecord item)).state ≡ true
-record-kind (kinds.Count size) key (states.Count late windows) item of =
-    elim item.late as (λ b. has_kind (kinds.Count size)
-    (cond b (unchanged (states.Count (one_more late) windows))
-    (outcome_with_timer (states.Count late (counted windows (window_end size item.stamp))) (window_end size item.stamp) item)).state
-    ≡ true) [ true ↦ refl | false ↦ refl ]
-record-kind (kinds.Spike last times) key (states.Spike late held known) item of =
-    elim item.late as (λ b. has_kind (kinds.Spike last times)
-    (cond b (unchanged (states.Spike (one_more late) held known))
-    (outcome_with_timer (states.Spike late (held_with held item.stamp item.value) known) (due_time item.stamp) item)).state
-    ≡ true) [ true ↦ refl | false ↦ refl ]
-record-kind kinds.Pass key (states.Pass late) item of = refl
-record-kind (kinds.Count size) key (states.Injector cursor) item of = absurd cc
-record-kind (kinds.Count size) key (states.Spike late held known) item of = absurd cc
-record-kind (kinds.Count size) key (states.Pass late) item of = absurd cc
-record-kind (kinds.Spike last times) key (states.Injector cursor) item of = absurd cc
-record-kind (kinds.Spike last times) key (states.Count late windows) item of = absurd cc
-record-kind (kinds.Spike last times) key (states.Pass late) item of = absurd cc
-record-kind kinds.Pass key (states.Injector cursor) item of = absurd cc
-record-kind kinds.Pass key (states.Count late windows) item of = absurd cc
-record-kind kinds.Pass key (states.Spike late held known) item of = absurd cc
-
--- and so does a timer
-timer-kind : (kind : Kind) (key : List ℕ) (state : State) (timer : Timer) → has_kind kind state ≡ true
-    → has_kind kind (effects_of kind key state (OfTimer timer)).state ≡ true
-timer-kind (kinds.Count size) key (states.Count late windows) timer of = count_timer-kind size key late windows (window_due windows timer)
-timer-kind (kinds.Spike last times) key (states.Spike late held known) timer of = spike_timer-kind last times key late held known
-    (total_due held timer)
-timer-kind kinds.Pass key state timer of = of
-timer-kind (kinds.Count size) key (states.Injector cursor) timer of = absurd cc
-timer-kind (kinds.Count size) key (states.Spike late held known) timer of = absurd cc
-timer-kind (kinds.Count size) key (states.Pass late) timer of = absurd cc
-timer-kind (kinds.Spike last times) key (states.Injector cursor) timer of = absurd cc
-timer-kind (kinds.Spike last times) key (states.Count late windows) timer of = absurd cc
-timer-kind (kinds.Spike last times) key (states.Pass late) timer of = absurd cc
 
 -- the state is an injector's
 abbrev IsCursor : State → Type 0
@@ -134,6 +78,18 @@ advanced-kind shape part (states.Count late windows) of = of
 advanced-kind shape part (states.Spike late held known) of = of
 advanced-kind shape part (states.Pass late) of = of
 
+-- the state that a cause leaves in its row is of the kind of the row's part
+caused-kind : (case : CaseShape) (run : Run) (entry : Entry) (sent : List Delivery) (name : RowName) (cause : Cause)
+    (effects : EffectsView) → IsCaused case run entry name cause effects
+    → IsStateOf case.topology name.part (row_of case.topology run name).state
+    → IsStateOf case.topology name.part (changed entry sent (row_of case.topology run name)).state
+caused-kind case run entry sent name cause effects caused of =
+    let row : Contents = row_of case.topology run name in
+    let outcome = caused.outcome in
+    subst (IsStateOf case.topology name.part) (sym (caused.left sent row))
+    (kind_of-state case.topology name.part outcome.kind effects.state outcome.of_part
+    (outcome.leaves.left.kept (of_kind case.topology name.part outcome.kind row.state outcome.of_part of)))
+
 -- the state that an entry leaves in its row is of the kind of the row's part
 changed-kind : (case : CaseShape) (run : Run) (entry : Entry) (sent : List Delivery) (name : RowName) → MayFollow case run entry
     → row_written entry ≡ Some name
@@ -142,25 +98,9 @@ changed-kind : (case : CaseShape) (run : Run) (entry : Entry) (sent : List Deliv
 changed-kind case run (Inject seq part line item) sent name may written of = advanced-kind case.topology name.part
     (row_of case.topology run name).state of
 changed-kind case run (Handle seq row id effects) sent name may written of =
-    let kind = was_some (λ (kind : Kind). effects_of kind row.key (row_of case.topology run row).state (OfRecord may.delivery.item))
-    (kind_of case.topology row.part) effects may.does in
-    let here : IsStateOf case.topology row.part (row_of case.topology run row).state = subst
-    (λ (n : RowName). IsStateOf case.topology n.part (row_of case.topology run n).state) (sym (some_same row name written)) of in
-    subst (λ (n : RowName). IsStateOf case.topology n.part effects.state) (some_same row name written)
-    (kind_of-state case.topology row.part kind.0 effects.state kind.1
-    (subst (λ (o : EffectsView). has_kind kind.0 o.state ≡ true) kind.2
-    (record-kind kind.0 row.key (row_of case.topology run row).state may.delivery.item
-    (of_kind case.topology row.part kind.0 (row_of case.topology run row).state kind.1 here))))
+    caused-kind case run _ sent name _ effects (caused-handle case run seq row id effects name may written) of
 changed-kind case run (Fire seq row timer mark effects) sent name may written of =
-    let kind = was_some (λ (kind : Kind). effects_of kind row.key (row_of case.topology run row).state (OfTimer timer))
-    (kind_of case.topology row.part) effects may.does in
-    let here : IsStateOf case.topology row.part (row_of case.topology run row).state = subst
-    (λ (n : RowName). IsStateOf case.topology n.part (row_of case.topology run n).state) (sym (some_same row name written)) of in
-    subst (λ (n : RowName). IsStateOf case.topology n.part effects.state) (some_same row name written)
-    (kind_of-state case.topology row.part kind.0 effects.state kind.1
-    (subst (λ (o : EffectsView). has_kind kind.0 o.state ≡ true) kind.2
-    (timer-kind kind.0 row.key (row_of case.topology run row).state timer
-    (of_kind case.topology row.part kind.0 (row_of case.topology run row).state kind.1 here))))
+    caused-kind case run _ sent name _ effects (caused-fire case run seq row timer mark effects name may written) of
 changed-kind case run _ sent name may written of = of
 
 -- ---- injectors set no timer
@@ -171,15 +111,9 @@ changed-no_timer : (case : CaseShape) (run : Run) (entry : Entry) (sent : List D
     → is_injector case.topology name.part ≡ true → (row_of case.topology run name).timers ≡ []
     → (changed entry sent (row_of case.topology run name)).timers ≡ []
 changed-no_timer case run (Handle seq row id effects) sent name may written is none =
-    let kind = was_some (λ (kind : Kind). effects_of kind row.key (row_of case.topology run row).state (OfRecord may.delivery.item))
-    (kind_of case.topology row.part) effects may.does in
-    absurd (injector-no_kind case.topology row.part kind.0
-    (subst (λ (n : RowName). is_injector case.topology n.part ≡ true) (sym (some_same row name written)) is) kind.1)
+    absurd (caused-no_injector case run _ name _ effects (caused-handle case run seq row id effects name may written) is)
 changed-no_timer case run (Fire seq row timer mark effects) sent name may written is none =
-    let kind = was_some (λ (kind : Kind). effects_of kind row.key (row_of case.topology run row).state (OfTimer timer))
-    (kind_of case.topology row.part) effects may.does in
-    absurd (injector-no_kind case.topology row.part kind.0
-    (subst (λ (n : RowName). is_injector case.topology n.part ≡ true) (sym (some_same row name written)) is) kind.1)
+    absurd (caused-no_injector case run _ name _ effects (caused-fire case run seq row timer mark effects name may written) is)
 changed-no_timer case run _ sent name may written is none = none
 
 -- ---- what is pending goes to computations

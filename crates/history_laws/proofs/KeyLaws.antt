@@ -27,20 +27,21 @@ use Rattle.injector.specs.Sources.{Source, SourceLine, item_at}
 use Rattle.topology.specs.declared.subscription.By.{By}
 use Rattle.topology.specs.declared.subscription.By.TheVariants.{Key, Head, Tail}
 use Rattle.topology.specs.Shapes.{Shape, consumers_of, extracted, kind_of, or_whole}
-use Rattle.computations.specs.Handlers.{count_timer, effects_of, is_spike, spike_timer, total_due, window_due, OfRecord, OfTimer}
+use Rattle.computations.specs.Handlers.{Cause}
+use Rattle.computations.specs.Leaving.{HasKey}
 use Rattle.row_parts.specs.Contents.{Contents, fresh, same_id, found_delivery}
 use Rattle.mw_types.specs.Bounds.{IsKey}
 use Rattle.run_history.specs.Cases.{CaseShape, fresh_of, record_of, source_of}
 use Rattle.run_history.specs.Finished.{handles}
 use Rattle.run_history.specs.Legal.{IsLegal, MayFollow}
-use Rattle.run_history.specs.Made.{deliveries_made, deliveries_of, row_written}
+use Rattle.run_history.specs.Made.{deliveries_made, deliveries_of, late_cause, row_written}
 use Rattle.run_history.specs.Runs.{Run, followed, row_in, row_of, run_of, still_unhandled}
 use Rattle.list_lemmas.proofs.Lists.{each-all, each-append, each-filter, each-weaker, find-each, none_some, some_same}
 use Rattle.history_laws.specs.Keys.{AreKeyed, HasKeys}
 use Rattle.history_laws.proofs.Along.{along_history}
 use Rattle.history_laws.proofs.IdLaws.{still_unhandled-filter}
 use Rattle.history_laws.proofs.Made.{deliveries_made-each}
-use Rattle.history_laws.proofs.PendingLaws.{was_some}
+use Rattle.history_laws.proofs.Caused.{IsCaused, of_standing, caused-handle, caused-fire, caused-sent}
 use Rattle.history_laws.proofs.RowSteps.{row_step}
 use Rattle.history_laws.proofs.StampLaws.{line_of, line-each}
 
@@ -98,58 +99,9 @@ extracted-key Key key is = is
 extracted-key Head key is = whole-key (before_first (λ b. b == 47) key) key (before-key key is) is
 extracted-key Tail key is = whole-key (after_first (λ b. b == 47) key) key (after-key key is) is
 
--- ---- keys of productions
-
 -- each of these productions has a key
 abbrev HaveKeys : List Production → Type 0
 HaveKeys = AllByRecursion (λ (p : Production). IsKey p.key)
-
--- what a record that only changes the state produces
-chosen-keys : (b : Bool) (one other : EffectsView) → HaveKeys one.productions → HaveKeys other.productions
-    → HaveKeys (cond b one other).productions
-chosen-keys true one other first second = first
-chosen-keys false one other first second = second
-
--- what a part of each kind produces of a record has the key of the row or of the record
-pub record-keys : (kind : Kind) (key : List ℕ) (state : State) (item : Record) → IsKey item.key
-    → HaveKeys (effects_of kind key state (OfRecord item)).productions
-record-keys (kinds.Count size) key (states.Count late windows) item is = chosen-keys item.late _ _ tt tt
-record-keys (kinds.Spike last times) key (states.Spike late held known) item is = chosen-keys item.late _ _ tt tt
-record-keys kinds.Pass key (states.Pass late) item is = (is, tt)
-record-keys (kinds.Count size) key (states.Injector cursor) item is = tt
-record-keys (kinds.Count size) key (states.Spike late held known) item is = tt
-record-keys (kinds.Count size) key (states.Pass late) item is = tt
-record-keys (kinds.Spike last times) key (states.Injector cursor) item is = tt
-record-keys (kinds.Spike last times) key (states.Count late windows) item is = tt
-record-keys (kinds.Spike last times) key (states.Pass late) item is = tt
-record-keys kinds.Pass key (states.Injector cursor) item is = tt
-record-keys kinds.Pass key (states.Count late windows) item is = tt
-record-keys kinds.Pass key (states.Spike late held known) item is = tt
-
--- a window that is due, and a total
-count_timer-keys : (key : List ℕ) (late : ℕ) (windows : List Window) (due : Option Window) → IsKey key
-    → HaveKeys (count_timer key late windows due).productions
-count_timer-keys key late windows None is = tt
-count_timer-keys key late windows (Some due) is = (is, tt)
-
-spike_timer-keys : (last times : ℕ) (key : List ℕ) (late : ℕ) (held : List HeldTotal) (known : List Rattle.std.specs.Prelude.ℤ)
-    (due : Option HeldTotal) → IsKey key → HaveKeys (spike_timer last times key late held known due).productions
-spike_timer-keys last times key late held known None is = tt
-spike_timer-keys last times key late held known (Some due) is = chosen-keys (is_spike last times known due.value) _ _ (is, tt) tt
-
--- what a part of each kind produces of a timer has the key of the row
-pub timer-keys : (kind : Kind) (key : List ℕ) (state : State) (timer : Timer) → IsKey key
-    → HaveKeys (effects_of kind key state (OfTimer timer)).productions
-timer-keys (kinds.Count size) key (states.Count late windows) timer is = count_timer-keys key late windows (window_due windows timer) is
-timer-keys (kinds.Spike last times) key (states.Spike late held known) timer is =
-    spike_timer-keys last times key late held known (total_due held timer) is
-timer-keys (kinds.Count size) key (states.Injector cursor) timer is = tt
-timer-keys (kinds.Count size) key (states.Spike late held known) timer is = tt
-timer-keys (kinds.Count size) key (states.Pass late) timer is = tt
-timer-keys (kinds.Spike last times) key (states.Injector cursor) timer is = tt
-timer-keys (kinds.Spike last times) key (states.Count late windows) timer is = tt
-timer-keys (kinds.Spike last times) key (states.Pass late) timer is = tt
-timer-keys kinds.Pass key state timer is = tt
 
 -- ---- one more entry
 
@@ -220,6 +172,18 @@ injected-key case part line item keyed of =
     subst (λ (r : Record). IsKey r.key) l.2
     (line-each (λ (l : SourceLine). IsKey l.item.record_key) (source_of case part) line l.0 (keyed-source case part keyed) l.1)
 
+-- what a cause makes in a row under a key has keys
+caused-keys : (case : CaseShape) (run : Run) (entry : Entry) (name : RowName) (cause : Cause) (effects : EffectsView) → AreKeys run
+    → IsKey name.key → IsCaused case run entry name cause effects
+    → AllByRecursion (λ (d : Delivery). IsKey d.item.key × IsKey d.to.key) (deliveries_of case.topology run.made run.next entry)
+caused-keys case run entry name cause effects keys of_row caused =
+    caused-sent case run entry name cause effects caused (λ (d : Delivery). IsKey d.item.key × IsKey d.to.key)
+    (made-keys case.topology name.part effects.productions (late_cause run.made entry) run.next
+    (caused.outcome.leaves.productions.keys of_row
+    (of_standing case run name cause (λ (d : Delivery). IsKey d.item.key × IsKey d.to.key) (λ (t : Timer). ⊤) HasKey keys.waiting
+    (each-all (λ (t : Timer). ⊤) (λ t. tt) (row_of case.topology run name).timers)
+    (λ d to (both : IsKey d.item.key × IsKey d.to.key). both.0) (λ t u. tt) caused.stands)))
+
 -- what an entry makes has keys
 sent-keys : (case : CaseShape) (run : Run) (entry : Entry) → AreKeyed case → AreKeys run → MayFollow case run entry
     → AllByRecursion (λ (d : Delivery). IsKey d.item.key × IsKey d.to.key) (deliveries_of case.topology run.made run.next entry)
@@ -227,18 +191,11 @@ sent-keys case run (Inject seq part line item) keyed keys may =
     made-keys case.topology part (record { key = item.key; stamp = item.stamp; value = item.value } ∷ []) item.late run.next
     (injected-key case part line item keyed may.of_line, tt)
 sent-keys case run (Handle seq row id effects) keyed keys may =
-    let state = (row_of case.topology run row).state in
-    let kind = was_some (λ (kind : Kind). effects_of kind row.key state (OfRecord may.delivery.item)) (kind_of case.topology row.part) effects may.does in
-    made-keys case.topology row.part effects.productions _ run.next
-    (subst (λ (e : EffectsView). HaveKeys e.productions) kind.2 (record-keys kind.0 row.key state may.delivery.item
-    (find-each (λ (d : Delivery). IsKey d.item.key × IsKey d.to.key) (λ (d : Delivery). same_id d.id id) run.unhandled may.delivery
-    keys.waiting may.waits).0))
+    caused-keys case run _ row _ effects keys (written-key case run _ row keys may refl)
+    (caused-handle case run seq row id effects row may refl)
 sent-keys case run (Fire seq row timer mark effects) keyed keys may =
-    let state = (row_of case.topology run row).state in
-    let kind = was_some (λ (kind : Kind). effects_of kind row.key state (OfTimer timer)) (kind_of case.topology row.part) effects may.does in
-    made-keys case.topology row.part effects.productions _ run.next
-    (subst (λ (e : EffectsView). HaveKeys e.productions) kind.2 (timer-keys kind.0 row.key state timer
-    (keys.rows row (fire-there case run seq row timer mark effects may))))
+    caused-keys case run _ row _ effects keys (written-key case run _ row keys may refl)
+    (caused-fire case run seq row timer mark effects row may refl)
 sent-keys case run _ keyed keys may = tt
 
 -- one more entry keeps keys keys

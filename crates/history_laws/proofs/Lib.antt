@@ -4,8 +4,8 @@ pub mod FloorLaws
 pub mod IdLaws
 pub mod RowSteps
 pub mod FeedLaws
-pub mod HandlerBounds
 pub mod PendingLaws
+pub mod Caused
 pub mod FinishedLaws
 pub mod FenceLaws
 pub mod StampLaws

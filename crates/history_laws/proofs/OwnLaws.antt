@@ -13,6 +13,8 @@ use Rattle.mw_types.specs.declared.entry.Entry.{Entry}
 use Rattle.mw_types.specs.declared.entry.Entry.TheVariants.{Claim, Inject, Handle, Fire, Ack, Purge}
 use Rattle.mw_types.specs.Outcomes.{EffectsView}
 use Rattle.topology.specs.Shapes.{Shape, consumers_of, feeds_of}
+use Rattle.computations.specs.Handlers.{Cause, OfRecord, OfTimer, stamp_of, is_late_cause}
+use Rattle.computations.specs.Leaving.{IsTimerAfter}
 use Rattle.row_parts.specs.Contents.{Contents, is_timer, same_id, found_delivery}
 use Rattle.run_history.specs.Cases.{CaseShape, is_injector}
 use Rattle.run_history.specs.Made.{row_written, late_cause, deliveries_of, deliveries_made}
@@ -23,12 +25,12 @@ use Rattle.run_history.specs.Inputs.{IsRunnable}
 use Rattle.history_laws.specs.Ids.{IsSentBy}
 use Rattle.list_lemmas.proofs.Lists.{some_same, each-append, each-all, each-weaker, each-filter, find-each}
 use Rattle.history_laws.proofs.Made.{deliveries_made-each}
-use Rattle.history_laws.proofs.HandlerBounds.{IsTimerAfter}
 use Rattle.history_laws.proofs.IdLaws.{AreIds}
 use Rattle.history_laws.proofs.PendingLaws.{AreSent}
 use Rattle.history_laws.proofs.RowSteps.{row_of-step}
-use Rattle.history_laws.proofs.StampLaws.{AreInTime, with_timers-each, handle-after, fire-after}
-use Rattle.history_laws.proofs.WorkLaws.{DueFrom, set_again-from, productions-from, handled-late, injected-from, source_mark-followed}
+use Rattle.history_laws.proofs.StampLaws.{AreInTime, caused-timers, caused-productions}
+use Rattle.history_laws.proofs.Caused.{IsCaused, StandsBefore, caused-handle, caused-fire, caused-sent}
+use Rattle.history_laws.proofs.WorkLaws.{DueFrom, set_again-from, productions-from, injected-from, source_mark-followed}
 
 -- a delivery, where it is not late, has at least this timestamp
 abbrev pub PendsFrom : ℕ → Delivery → Type 0
@@ -80,13 +82,41 @@ made-own shape part productions late commit x from =
 module _ (case : CaseShape) (history : List Entry) (run : Run) (x part : ℕ) (runs : IsRunnable case) (ids : AreIds history run)
     (sent : AreSent case.topology run) (in_time : AreInTime run)
     (feeds : AllByRecursion (IsPartFrom case run x) (feeds_of case.topology part)) where
-  -- a delivery that a row of the part may handle, where it is not late, is no older than the bound
-  may_handle-from : (seq : ℕ) (row : RowName) (id : RecordId) (effects : EffectsView) (may : MayFollow case run (Handle seq row id effects))
-      → row.part ≡ part → PendsFrom x may.delivery
-  may_handle-from seq row id effects may of =
-      waits-from case run x id may.delivery sent
+  -- what stands before a row of the part, where it is not late, is no older than the bound
+  standing-own : (name : RowName) (cause : Cause) → name.part ≡ part → AllByRecursion (DueFrom x) (row_of case.topology run name).timers
+      → StandsBefore case run name cause → not (is_late_cause cause) ≡ true → x ≤ stamp_of cause
+  standing-own name (OfRecord item) of timers (id, d, waits, to, same) =
+      subst (λ (i : Record). not i.late ≡ true → x ≤ i.stamp) same
+      (waits-from case run x id d sent
       (subst (λ n. AllByRecursion (IsPartFrom case run x) (feeds_of case.topology n))
-      (sym (ap (λ (r : RowName). r.part) may.to_row ∙ of)) feeds) may.waits
+      (sym (ap (λ (r : RowName). r.part) to ∙ of)) feeds) waits)
+  standing-own name (OfTimer timer) of timers first =
+      each-at (DueFrom x) (row_of case.topology run name).timers 0 timer timers first
+
+  module _ (entry : Entry) (name : RowName) (cause : Cause) (effects : EffectsView) (caused : IsCaused case run entry name cause effects)
+      (of : name.part ≡ part) (row : IsRowFrom x (row_of case.topology run name)) where
+    -- what a cause makes in a row of the part is no older than the bound
+    caused-own : AllByRecursion (PendsFrom x) (deliveries_of case.topology run.made run.next entry)
+    caused-own = caused-sent case run entry name cause effects caused (PendsFrom x)
+        (made-own case.topology name.part effects.productions (late_cause run.made entry) run.next x
+        (λ on_time. productions-from x cause effects.productions
+        (standing-own name cause of row.timers caused.stands (sym (ap not (caused.late history ids)) ∙ on_time))
+        (caused-productions case run entry name cause effects in_time caused runs)))
+
+    -- and what it leaves of the row has no older work
+    caused-changed_own : (new : List Delivery) → AllByRecursion (PendsFrom x) new
+        → IsRowFrom x (changed entry new (row_of case.topology run name))
+    caused-changed_own new each = record {
+      timers = caused.timers (DueFrom x) (set_again-from x) new (row_of case.topology run name)
+          (each-weaker (IsTimerAfter cause) (DueFrom x)
+          (λ t (after : IsTimerAfter cause t) on_time.
+          let later = after.after in
+          let from = standing-own name cause of row.timers caused.stands (sym (ap not after.as_late) ∙ on_time) in
+          omega (arith, later, from))
+          effects.timers (caused-timers case run entry name cause effects in_time caused runs)) row.timers;
+      pending = subst (AllByRecursion (PendsFrom x)) (sym (caused.pending new (row_of case.topology run name)))
+          (each-append (PendsFrom x) (row_of case.topology run name).pending new row.pending each);
+    }
 
   -- what an entry makes is no older than the bound, where it is on a row of the part that has no older work
   sent-own : (entry : Entry) (name : RowName) → MayFollow case run entry → row_written entry ≡ Some name → name.part ≡ part
@@ -102,20 +132,9 @@ module _ (case : CaseShape) (history : List Entry) (run : Run) (x part : ℕ) (r
       let later = injected-from case run seq other line item runs may on_time in
       (omega (arith, stated, later), tt))
   sent-own (Handle seq row_name id effects) name may written of row mark =
-      made-own case.topology row_name.part effects.productions (late_cause run.made (Handle seq row_name id effects)) run.next x
-      (λ on_time.
-      productions-from x may.delivery.item.stamp effects.productions
-      (may_handle-from seq row_name id effects may (ap (λ (n : RowName). n.part) (some_same row_name name written) ∙ of)
-      (sym (ap not (handled-late case history run seq row_name id effects ids may)) ∙ on_time))
-      (handle-after case run seq row_name id effects runs in_time may).productions)
+      caused-own _ name _ effects (caused-handle case run seq row_name id effects name may written) of row
   sent-own (Fire seq row_name timer fire_mark effects) name may written of row mark =
-      made-own case.topology row_name.part effects.productions timer.late run.next x
-      (λ on_time.
-      productions-from x timer.time effects.productions
-      (each-at (DueFrom x) (row_of case.topology run row_name).timers 0 timer
-      (subst (λ (n : RowName). AllByRecursion (DueFrom x) (row_of case.topology run n).timers)
-      (sym (some_same row_name name written)) row.timers) may.least_timer on_time)
-      (fire-after case run seq row_name timer fire_mark effects in_time may).productions)
+      caused-own _ name _ effects (caused-fire case run seq row_name timer fire_mark effects name may written) of row
   sent-own _ name may written of row mark = tt
 
   -- what an entry leaves of its row has no older work
@@ -128,21 +147,10 @@ module _ (case : CaseShape) (history : List Entry) (run : Run) (x part : ℕ) (r
     timers = row.timers;
     pending = each-append (PendsFrom x) (row_of case.topology run name).pending _ row.pending new;
   }
-  changed-own (Handle seq row_name id effects) name may written of row new = record {
-    timers = with_timers-each (DueFrom x) (set_again-from x) effects.timers (row_of case.topology run name).timers
-        (each-weaker (IsTimerAfter may.delivery.item.stamp may.delivery.item.late) (DueFrom x)
-        (λ t (after : IsTimerAfter may.delivery.item.stamp may.delivery.item.late t) on_time.
-        let later = after.after in
-        let from = may_handle-from seq row_name id effects may (ap (λ (n : RowName). n.part) (some_same row_name name written) ∙ of)
-        (sym (ap not after.as_late) ∙ on_time) in omega (arith, later, from))
-        effects.timers (handle-after case run seq row_name id effects runs in_time may).timers)
-        row.timers;
-    pending = each-append (PendsFrom x) (row_of case.topology run name).pending _ row.pending new;
-  }
-  changed-own (Fire seq row_name timer fire_mark effects) name may written of row new = record {
-    timers = each-filter (DueFrom x) (λ t. not (is_timer timer.tag timer.time t)) (row_of case.topology run name).timers row.timers;
-    pending = each-append (PendsFrom x) (row_of case.topology run name).pending _ row.pending new;
-  }
+  changed-own (Handle seq row_name id effects) name may written of row new =
+      caused-changed_own _ name _ effects (caused-handle case run seq row_name id effects name may written) of row _ new
+  changed-own (Fire seq row_name timer fire_mark effects) name may written of row new =
+      caused-changed_own _ name _ effects (caused-fire case run seq row_name timer fire_mark effects name may written) of row _ new
   changed-own (Ack seq row_name id) name may written of row new = record {
     timers = row.timers;
     pending = each-filter (PendsFrom x) (λ (d : Delivery). not (same_id d.id id)) (row_of case.topology run name).pending row.pending;

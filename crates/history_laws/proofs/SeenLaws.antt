@@ -14,12 +14,12 @@ use Rattle.mw_types.specs.declared.delivery.Delivery.{Delivery}
 use Rattle.mw_types.specs.declared.entry.Entry.{Entry}
 use Rattle.mw_types.specs.declared.entry.Entry.TheVariants.{Claim, Inject, Handle, Fire, Ack, Purge}
 use Rattle.topology.specs.Shapes.{Shape, kind_of}
-use Rattle.computations.specs.Handlers.{effects_of, OfRecord, OfTimer}
+use Rattle.computations.specs.Handlers.{OfRecord, OfTimer}
 use Rattle.row_parts.specs.Contents.{Contents, same_id, cursor_in, found_delivery}
 use Rattle.run_history.specs.Cases.{CaseShape}
 use Rattle.run_history.specs.Made.{row_written, deliveries_of}
 use Rattle.run_history.specs.Runs.{Run, run_of, row_of, followed}
-use Rattle.run_history.specs.Legal.{MayFollow, MayClaim, IsLegal}
+use Rattle.run_history.specs.Legal.{MayFollow, MayClaim, IsLegal, outcome_of}
 use Rattle.run_history.proofs.RunLaws.{IsLegal-push}
 use Rattle.run_history.specs.Fences.{interval_of, sequencer_of, last_claim, IsFenced, HasSeen, HasSeenAll, IsWriteUnder}
 use Rattle.run_history.specs.Finished.{handles, is_handled}
@@ -31,7 +31,7 @@ use Rattle.history_laws.proofs.Along.{run_of-append, AreLegal-apart}
 use Rattle.history_laws.proofs.FloorLaws.{floor_of-rises}
 use Rattle.history_laws.proofs.IdLaws.{same_id-true, WasMade, legal-ids, waits_as_made}
 use Rattle.history_laws.proofs.FinishedLaws.{is_handled-more, handled-waits_not}
-use Rattle.history_laws.proofs.PendingLaws.{was_some, kind-there}
+use Rattle.history_laws.proofs.Caused.{caused-there, caused-fire}
 use Rattle.history_laws.proofs.FenceLaws.{claim-within, row_in-seen, row_of-seen}
 use Rattle.run_history.proofs.Claims.{last_claim-front}
 use Rattle.run_history.proofs.Fenced.{carried, IsFenced-push, IsFenced-begins, claim-under, entry-under}
@@ -177,21 +177,18 @@ MayFollow-seen case front rest interval seq entry runs legal fenced seen under m
           waits = waits-seen case front rest interval seq id may.delivery legal fenced seen
               (ap (interval_of shape) may.to_row ∙ lies) may.waits;
           to_row = may.to_row;
-          does = ap (λ (c : Contents). option_map (λ (kind : Kind). effects_of kind row.key c.state (OfRecord may.delivery.item))
-              (kind_of shape row.part)) (row-same row lies) ∙ may.does;
+          does = ap (λ (c : Contents). outcome_of case row c (OfRecord may.delivery.item)) (row-same row lies) ∙ may.does;
         }
     by_kind (Fire carried row timer mark effects) under may =
         let lies : interval_of shape row ≡ Some interval = lies-in row under.name under.on_row under.of_interval in
-        let kind = was_some (λ (kind : Kind). effects_of kind row.key (row_of shape (run_of shape front) row).state (OfTimer timer))
-        (kind_of shape row.part) effects may.does in
-        let there = kind-there shape row.part kind.0 kind.1 in
+        let there = caused-there case (run_of shape front) _ row _ effects
+        (caused-fire case (run_of shape front) carried row timer mark effects row may refl) in
         let rises = low_watermark-rises case front rest row.part runs legal (omega (arith, there)) in
         let under_mark = may.under_watermark in record {
           least_timer = ap (λ (c : Contents). slice_get c.timers 0) (row-same row lies) ∙ may.least_timer;
           due = may.due;
           under_watermark = omega (arith, rises, under_mark);
-          does = ap (λ (c : Contents). option_map (λ (kind : Kind). effects_of kind row.key c.state (OfTimer timer))
-              (kind_of shape row.part)) (row-same row lies) ∙ may.does;
+          does = ap (λ (c : Contents). outcome_of case row c (OfTimer timer)) (row-same row lies) ∙ may.does;
         }
     by_kind (Ack carried row id) under may =
         let lies : interval_of shape row ≡ Some interval = lies-in row under.name under.on_row under.of_interval in record {

@@ -23,10 +23,11 @@ use Rattle.mw_types.specs.Orders.{timer_cmp}
 use Rattle.mw_types.specs.Outcomes.{EffectsView}
 use Rattle.injector.specs.Sources.{Source, SourceLine, IsSource, item_at}
 use Rattle.topology.specs.Shapes.{Shape, consumers_of, kind_of}
-use Rattle.computations.specs.Handlers.{effects_of, OfRecord, OfTimer}
+use Rattle.computations.specs.Handlers.{Cause, OfRecord, OfTimer, stamp_of}
+use Rattle.computations.specs.Leaving.{IsTimerAfter, IsProductionAfter}
 use Rattle.row_parts.specs.Contents.{Contents, with_timer, set_again, is_timer, same_id}
 use Rattle.run_history.specs.Cases.{CaseShape, source_of, record_of}
-use Rattle.run_history.specs.Made.{deliveries_of, deliveries_made}
+use Rattle.run_history.specs.Made.{late_cause, deliveries_of, deliveries_made}
 use Rattle.run_history.specs.Runs.{Run, run_of, row_of, followed, changed, with_timers, still_unhandled}
 use Rattle.run_history.specs.Legal.{MayFollow, IsLegal}
 use Rattle.run_history.specs.Inputs.{IsRunnable}
@@ -35,8 +36,8 @@ use Rattle.list_lemmas.proofs.Lists.{each-append, each-all, each-weaker, each-fi
 use Rattle.history_laws.proofs.Along.{along_history}
 use Rattle.history_laws.proofs.Made.{deliveries_made-each}
 use Rattle.history_laws.proofs.FeedLaws.{kind-ranged}
-use Rattle.history_laws.proofs.HandlerBounds.{IsAfter, IsTimerAfter, IsProductionAfter, record-after, timer-after}
 use Rattle.history_laws.proofs.PendingLaws.{was_some}
+use Rattle.history_laws.proofs.Caused.{IsCaused, of_standing, caused-handle, caused-fire, caused-sent}
 use Rattle.history_laws.proofs.IdLaws.{still_unhandled-filter}
 use Rattle.history_laws.proofs.RowSteps.{each_row-followed, row_of-each, both_Equal}
 
@@ -82,31 +83,6 @@ injected-in_time source line item rules of =
     subst (λ (r : Record). r.stamp ≤ INPUT_MAX) l.2
     (line-each (λ (l : SourceLine). l.item.stamp ≤ INPUT_MAX) source line l.0 rules.stamps l.1)
 
--- ---- timers that are set
-
--- timers that tie are due at one time
-tie_time : (a b : Timer) → timer_cmp a b ≡ Equal → a.time ≡ b.time
-tie_time a b e = exact_unsigned a.time b.time (both_Equal _ _ e).0
-
--- a fact of timers that are not late, which may be set again at the same time
-with_timer-each : (P : Timer → Type 0) → ((t u : Timer) → t.time ≡ u.time → P t → P u → P (set_again t u)) → (t : Timer) (ts : List Timer)
-    → P t → AllByRecursion P ts → AllByRecursion P (with_timer t ts)
-with_timer-each P again t [] new each = (new, tt)
-with_timer-each P again t (u ∷ us) new each =
-    elim (timer_cmp t u) as (λ r. timer_cmp t u ≡ r
-    → AllByRecursion P (match_ordering r (t ∷ u ∷ us) (set_again t u ∷ us) (u ∷ with_timer t us))) [
-      | Less ↦ λ e. (new, each)
-      | Equal ↦ λ e. (again t u (tie_time t u e) new each.0, each.1)
-      | Greater ↦ λ e. (each.0, with_timer-each P again t us new each.1)
-    ] refl
-
--- and of several, set one after another
-pub with_timers-each : (P : Timer → Type 0) → ((t u : Timer) → t.time ≡ u.time → P t → P u → P (set_again t u)) → (set ts : List Timer)
-    → AllByRecursion P set → AllByRecursion P ts → AllByRecursion P (with_timers set ts)
-with_timers-each P again [] ts new each = each
-with_timers-each P again (t ∷ set) ts new each = with_timers-each P again set (with_timer t ts) new.1
-    (with_timer-each P again t ts new.0 each)
-
 -- ---- what is in time
 
 -- each of these timers is due by the greatest timestamp
@@ -123,34 +99,23 @@ pub record AreInTime (run : Run) : Type 0 where
 pub row_of-in_time : (shape : Shape) (run : Run) (name : RowName) → AreInTime run → InTime (row_of shape run name).timers
 row_of-in_time shape run name in_time = row_of-each shape run name (λ (c : Contents). InTime c.timers) in_time.timers tt
 
--- a handled record that waited, with what its computation's handler leaves of it
-pub handle-after : (case : CaseShape) (run : Run) (seq : ℕ) (row : RowName) (id : RecordId) (effects : EffectsView) → IsRunnable case
-    → AreInTime run
-    → (may : MayFollow case run (Handle seq row id effects)) → IsAfter may.delivery.item.stamp may.delivery.item.late effects
-handle-after case run seq row id effects runs in_time may =
-    let kind = was_some (λ (kind : Kind). effects_of kind row.key (row_of case.topology run row).state (OfRecord may.delivery.item))
-    (kind_of case.topology row.part) effects may.does in
-    subst (IsAfter may.delivery.item.stamp may.delivery.item.late) kind.2
-    (record-after kind.0 row.key (row_of case.topology run row).state may.delivery.item
-    (kind-ranged case.topology row.part kind.0 runs.topology kind.1)
-    (find-each (λ (d : Delivery). d.item.stamp ≤ MAX_STAMP)
-    (λ (d : Delivery). same_id d.id id) run.unhandled may.delivery in_time.waiting may.waits))
+module _ (case : CaseShape) (run : Run) (entry : Entry) (name : RowName) (cause : Cause) (effects : EffectsView)
+    (in_time : AreInTime run) (caused : IsCaused case run entry name cause effects) where
+  -- a cause is in time
+  pub caused-in_time : stamp_of cause ≤ MAX_STAMP
+  caused-in_time = of_standing case run name cause (λ (d : Delivery). d.item.stamp ≤ MAX_STAMP) (λ (t : Timer). t.time ≤ MAX_STAMP)
+      (λ (c : Cause). stamp_of c ≤ MAX_STAMP) in_time.waiting (row_of-in_time case.topology run name in_time)
+      (λ d to le. le) (λ t le. le) caused.stands
 
--- a timer that fires is in time
-pub fire-in_time : (case : CaseShape) (run : Run) (seq : ℕ) (row : RowName) (timer : Timer) (mark : ℕ) (effects : EffectsView) → AreInTime run
-    → MayFollow case run (Fire seq row timer mark effects) → timer.time ≤ MAX_STAMP
-fire-in_time case run seq row timer mark effects in_time may =
-    each-at (λ (t : Timer). t.time ≤ MAX_STAMP) (row_of case.topology run row).timers 0 timer
-    (row_of-in_time case.topology run row in_time) may.least_timer
+  -- the timers that it sets are no earlier
+  pub caused-timers : IsRunnable case → AllByRecursion (IsTimerAfter cause) effects.timers
+  caused-timers runs = caused.outcome.leaves.timers.each
+      (kind-ranged case.topology name.part caused.outcome.kind runs.topology caused.outcome.of_part) caused-in_time
 
--- a fired timer, with what its computation's handler leaves of it
-pub fire-after : (case : CaseShape) (run : Run) (seq : ℕ) (row : RowName) (timer : Timer) (mark : ℕ) (effects : EffectsView) → AreInTime run
-    → MayFollow case run (Fire seq row timer mark effects) → IsAfter timer.time timer.late effects
-fire-after case run seq row timer mark effects in_time may =
-    let kind = was_some (λ (kind : Kind). effects_of kind row.key (row_of case.topology run row).state (OfTimer timer))
-    (kind_of case.topology row.part) effects may.does in
-    subst (IsAfter timer.time timer.late) kind.2
-    (timer-after kind.0 row.key (row_of case.topology run row).state timer (fire-in_time case run seq row timer mark effects in_time may))
+  -- and so is what it produces
+  pub caused-productions : IsRunnable case → AllByRecursion (IsProductionAfter cause) effects.productions
+  caused-productions runs = caused.outcome.leaves.productions.each
+      (kind-ranged case.topology name.part caused.outcome.kind runs.topology caused.outcome.of_part) caused-in_time
 
 -- deliveries of productions that are in time are in time
 made-in_time : (shape : Shape) (part : ℕ) (productions : List Production) (late : Bool) (commit : ℕ)
@@ -161,6 +126,16 @@ made-in_time shape part productions late commit in_time =
     (λ to item. item.stamp ≤ MAX_STAMP)
     (λ s p _ in_time. in_time) (each-all (λ s. ⊤) (λ s. tt) (consumers_of shape part)) in_time
 
+-- what a cause makes is in time
+caused-sent_in_time : (case : CaseShape) (run : Run) (entry : Entry) (name : RowName) (cause : Cause) (effects : EffectsView)
+    → AreInTime run → IsCaused case run entry name cause effects → IsRunnable case
+    → AllByRecursion (λ (d : Delivery). d.item.stamp ≤ MAX_STAMP) (deliveries_of case.topology run.made run.next entry)
+caused-sent_in_time case run entry name cause effects in_time caused runs =
+    caused-sent case run entry name cause effects caused (λ (d : Delivery). d.item.stamp ≤ MAX_STAMP)
+    (made-in_time case.topology name.part effects.productions (late_cause run.made entry) run.next
+    (each-weaker (IsProductionAfter cause) (λ (p : Production). p.stamp ≤ MAX_STAMP) (λ p (after : IsProductionAfter cause p). after.in_time)
+    effects.productions (caused-productions case run entry name cause effects in_time caused runs)))
+
 -- what an entry makes is in time
 sent-in_time : (case : CaseShape) (run : Run) (entry : Entry) → IsRunnable case → AreInTime run → MayFollow case run entry
     → AllByRecursion (λ (d : Delivery). d.item.stamp ≤ MAX_STAMP) (deliveries_of case.topology run.made run.next entry)
@@ -169,29 +144,28 @@ sent-in_time case run (Inject seq part line item) runs in_time may =
     made-in_time case.topology part (record { key = item.key; stamp = item.stamp; value = item.value } ∷ []) item.late run.next
     (omega (arith, input), tt)
 sent-in_time case run (Handle seq row id effects) runs in_time may =
-    made-in_time case.topology row.part effects.productions _ run.next
-    (each-weaker (IsProductionAfter may.delivery.item.stamp) (λ (p : Production). p.stamp ≤ MAX_STAMP)
-    (λ p (after : IsProductionAfter may.delivery.item.stamp p). after.in_time)
-    effects.productions (handle-after case run seq row id effects runs in_time may).productions)
+    caused-sent_in_time case run _ row _ effects in_time (caused-handle case run seq row id effects row may refl) runs
 sent-in_time case run (Fire seq row timer mark effects) runs in_time may =
-    made-in_time case.topology row.part effects.productions _ run.next
-    (each-weaker (IsProductionAfter timer.time) (λ (p : Production). p.stamp ≤ MAX_STAMP)
-    (λ p (after : IsProductionAfter timer.time p). after.in_time)
-    effects.productions (fire-after case run seq row timer mark effects in_time may).productions)
+    caused-sent_in_time case run _ row _ effects in_time (caused-fire case run seq row timer mark effects row may refl) runs
 sent-in_time case run _ runs in_time may = tt
+
+-- the timers that a cause leaves in its row are in time
+caused-timers_in_time : (case : CaseShape) (run : Run) (entry : Entry) (name : RowName) (cause : Cause) (effects : EffectsView)
+    (sent : List Delivery) (row : Contents) → AreInTime run → IsCaused case run entry name cause effects → IsRunnable case
+    → InTime row.timers → InTime (changed entry sent row).timers
+caused-timers_in_time case run entry name cause effects sent row in_time caused runs =
+    caused.timers (λ (t : Timer). t.time ≤ MAX_STAMP) (λ t u same p q. q) sent row
+    (each-weaker (IsTimerAfter cause) (λ (t : Timer). t.time ≤ MAX_STAMP) (λ t (after : IsTimerAfter cause t). after.in_time)
+    effects.timers (caused-timers case run entry name cause effects in_time caused runs))
 
 -- the timers that an entry leaves in its row are in time
 timers-in_time : (case : CaseShape) (run : Run) (entry : Entry) (sent : List Delivery) (row : Contents) → IsRunnable case → AreInTime run
-    → MayFollow case run entry
-    → InTime row.timers → InTime (changed entry sent row).timers
-timers-in_time case run (Handle seq name id effects) sent row runs in_time may old =
-    with_timers-each (λ (t : Timer). t.time ≤ MAX_STAMP) (λ t u same p q. q) effects.timers row.timers
-    (each-weaker (IsTimerAfter may.delivery.item.stamp may.delivery.item.late) (λ (t : Timer). t.time ≤ MAX_STAMP)
-    (λ t (after : IsTimerAfter may.delivery.item.stamp may.delivery.item.late t). after.in_time) effects.timers
-    (handle-after case run seq name id effects runs in_time may).timers) old
-timers-in_time case run (Fire seq name timer mark effects) sent row runs in_time may old =
-    each-filter (λ (t : Timer). t.time ≤ MAX_STAMP) (λ t. not (is_timer timer.tag timer.time t)) row.timers old
-timers-in_time case run _ sent row runs in_time may old = old
+    → MayFollow case run entry → InTime row.timers → InTime (changed entry sent row).timers
+timers-in_time case run (Handle seq name id effects) sent row runs in_time may =
+    caused-timers_in_time case run _ name _ effects sent row in_time (caused-handle case run seq name id effects name may refl) runs
+timers-in_time case run (Fire seq name timer mark effects) sent row runs in_time may =
+    caused-timers_in_time case run _ name _ effects sent row in_time (caused-fire case run seq name timer mark effects name may refl) runs
+timers-in_time case run _ sent row runs in_time may = λ old. old
 
 -- one more entry keeps all in time
 pub AreInTime-followed : (case : CaseShape) (run : Run) (entry : Entry) → IsRunnable case → AreInTime run → MayFollow case run entry

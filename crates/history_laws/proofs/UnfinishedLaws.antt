@@ -15,7 +15,6 @@ use Rattle.mw_types.specs.declared.delivery.Delivery.{Delivery}
 use Rattle.mw_types.specs.declared.entry.Entry.{Entry}
 use Rattle.mw_types.specs.declared.entry.Entry.TheVariants.{Inject, Handle, Fire}
 use Rattle.topology.specs.Shapes.{kind_of, injectors_of}
-use Rattle.computations.specs.Handlers.{effects_of, OfRecord, OfTimer}
 use Rattle.row_parts.specs.Contents.{Contents, cursor_in, found_delivery}
 use Rattle.run_history.specs.Cases.{CaseShape, is_injector, source_of}
 use Rattle.run_history.specs.Made.{row_written, deliveries_of}
@@ -27,7 +26,8 @@ use Rattle.history_laws.specs.Ids.{IsSentBy}
 use Rattle.list_lemmas.proofs.Lists.{none_some, some_same}
 use Rattle.history_laws.proofs.Along.{along_history}
 use Rattle.history_laws.proofs.FeedLaws.{injector-no_kind}
-use Rattle.history_laws.proofs.PendingLaws.{was_some, legal-sent}
+use Rattle.history_laws.proofs.PendingLaws.{legal-sent}
+use Rattle.history_laws.proofs.Caused.{caused-handle, caused-fire, caused-no_injector}
 use Rattle.history_laws.proofs.RowSteps.{row_of-step, row_of-each, row_of-elsewhere, made_row}
 use Rattle.history_laws.proofs.LowLaws.{AreRowsInOrder}
 use Rattle.history_laws.proofs.StoredLaws.{count-followed}
@@ -66,15 +66,9 @@ changed-within case run (Inject seq other line item) sent name may is written ol
     let step = advanced-within (row_of case.topology run (record { part = other; key = [] })).state in
     omega (arith, within, next, step))
 changed-within case run (Handle seq row id effects) sent name may is written old =
-    let kind = was_some (λ (kind : Kind). effects_of kind row.key (row_of case.topology run row).state (OfRecord may.delivery.item))
-    (kind_of case.topology row.part) effects may.does in
-    absurd (injector-no_kind case.topology row.part kind.0
-    (subst (λ (n : RowName). is_injector case.topology n.part ≡ true) (sym (some_same row name written)) is) kind.1)
+    absurd (caused-no_injector case run _ name _ effects (caused-handle case run seq row id effects name may written) is)
 changed-within case run (Fire seq row timer mark effects) sent name may is written old =
-    let kind = was_some (λ (kind : Kind). effects_of kind row.key (row_of case.topology run row).state (OfTimer timer))
-    (kind_of case.topology row.part) effects may.does in
-    absurd (injector-no_kind case.topology row.part kind.0
-    (subst (λ (n : RowName). is_injector case.topology n.part ≡ true) (sym (some_same row name written)) is) kind.1)
+    absurd (caused-no_injector case run _ name _ effects (caused-fire case run seq row timer mark effects name may written) is)
 changed-within case run _ sent name may is written old = old
 
 -- after each legal history no row of an injector has injected more lines than the injector's file has

@@ -23,7 +23,8 @@ use Rattle.mw_types.specs.Outcomes.{EffectsView}
 use Rattle.injector.specs.Sources.{Source, SourceLine, IsSource, stated_at}
 use Rattle.topology.specs.declared.subscription.Subscription.{Subscription}
 use Rattle.topology.specs.Shapes.{Shape, parts_of, injectors_of, feeds_of, kind_of}
-use Rattle.computations.specs.Handlers.{effects_of, OfRecord, OfTimer}
+use Rattle.computations.specs.Handlers.{Cause, stamp_of, is_late_cause}
+use Rattle.computations.specs.Leaving.{IsTimerAfter, IsProductionAfter}
 use Rattle.row_parts.specs.Contents.{Contents, set_again, is_timer, same_id, cursor_in}
 use Rattle.run_history.specs.Cases.{CaseShape, is_injector, source_of}
 use Rattle.run_history.specs.Made.{row_written, late_cause, deliveries_of, deliveries_made}
@@ -35,11 +36,11 @@ use Rattle.run_history.specs.Inputs.{IsRunnable}
 use Rattle.list_lemmas.proofs.Lists.{none_some, some_same, each-append, each-weaker, each-filter, find-each}
 use Rattle.history_laws.proofs.Made.{deliveries_made-each}
 use Rattle.history_laws.proofs.FeedLaws.{consumers-fed, injector-no_kind}
-use Rattle.history_laws.proofs.HandlerBounds.{IsTimerAfter, IsProductionAfter}
 use Rattle.history_laws.proofs.IdLaws.{AreIds, waits_as_made, still_unhandled-filter}
 use Rattle.history_laws.proofs.PendingLaws.{was_some, kind-there}
 use Rattle.history_laws.proofs.RowSteps.{row_of-step}
-use Rattle.history_laws.proofs.StampLaws.{AreInTime, source_of-source, line_of, line-each, with_timers-each, handle-after, fire-after}
+use Rattle.history_laws.proofs.StampLaws.{AreInTime, source_of-source, line_of, line-each, caused-timers, caused-productions}
+use Rattle.history_laws.proofs.Caused.{IsCaused, of_standing, caused-handle, caused-fire, caused-sent, caused-there, caused-no_injector}
 
 -- a delivery, where it goes to this part and is not late, has at least this timestamp
 abbrev pub WaitsFrom : ℕ → ℕ → Delivery → Type 0
@@ -95,19 +96,21 @@ made-from shape part productions late commit x reader there from =
     each (p ∷ ps) from = ((λ fed on_time. (from fed on_time).0), each ps (λ fed on_time. (from fed on_time).1))
 
 -- productions that are after a cause are after what the cause is after
-pub productions-from : (x stamp : ℕ) (productions : List Production) → x ≤ stamp → AllByRecursion (IsProductionAfter stamp) productions
-    → AllByRecursion (λ (p : Production). x ≤ p.stamp) productions
-productions-from x stamp productions from each = each-weaker (IsProductionAfter stamp) (λ (p : Production). x ≤ p.stamp)
-    (λ p (after : IsProductionAfter stamp p). let later = after.after in omega (arith, from, later)) productions each
+pub productions-from : (x : ℕ) (cause : Cause) (productions : List Production) → x ≤ stamp_of cause
+    → AllByRecursion (IsProductionAfter cause) productions → AllByRecursion (λ (p : Production). x ≤ p.stamp) productions
+productions-from x cause productions from each = each-weaker (IsProductionAfter cause) (λ (p : Production). x ≤ p.stamp)
+    (λ p (after : IsProductionAfter cause p). let later = after.after in omega (arith, from, later)) productions each
 
--- the delivery that a row handles, where it is not late, is no older than the work of the row's part
-handled-from : (case : CaseShape) (run : Run) (x : ℕ) (seq : ℕ) (row : RowName) (id : RecordId) (effects : EffectsView)
-    → (may : MayFollow case run (Handle seq row id effects)) → IsWorkFrom case.topology run x row.part
-    → not may.delivery.item.late ≡ true → x ≤ may.delivery.item.stamp
-handled-from case run x seq row id effects may work on_time =
-    let d = may.delivery in
-    find-each (WaitsFrom x row.part) (λ (e : Delivery). same_id e.id id) run.unhandled d work.waiting may.waits
-    (ap (λ b. b && not d.item.late) (eq-eqb d.to.part row.part (ap (λ (r : RowName). r.part) may.to_row)) ∙ on_time)
+-- a cause, where it is not late, is no older than the work of its row's part
+pub caused-from : (case : CaseShape) (run : Run) (entry : Entry) (x : ℕ) (name : RowName) (cause : Cause) (effects : EffectsView)
+    → IsCaused case run entry name cause effects → IsWorkFrom case.topology run x name.part
+    → not (is_late_cause cause) ≡ true → x ≤ stamp_of cause
+caused-from case run entry x name cause effects caused work =
+    of_standing case run name cause (WaitsFrom x name.part) (DueFrom x) (λ (c : Cause). not (is_late_cause c) ≡ true → x ≤ stamp_of c)
+    work.waiting (work.timers name refl)
+    (λ d to waits on_time. waits
+    (ap (λ b. b && not d.item.late) (eq-eqb d.to.part name.part (ap (λ (r : RowName). r.part) to)) ∙ on_time))
+    (λ t due. due) caused.stands
 
 -- whether the cause of a handled record is late
 pub handled-late : (case : CaseShape) (history : List Entry) (run : Run) (seq : ℕ) (row : RowName) (id : RecordId) (effects : EffectsView)
@@ -135,6 +138,23 @@ injected-from case run seq part line item runs may on_time =
     off true e = cc
     off false e = refl
 
+-- what a cause makes for a part is no older than a bound of what feeds the part
+caused-sent_from : (case : CaseShape) (history : List Entry) (run : Run) (entry : Entry) (x reader : ℕ) (name : RowName) (cause : Cause)
+    (effects : EffectsView) → IsCaused case run entry name cause effects → IsRunnable case → AreIds history run → AreInTime run
+    → AllByRecursion (FeedsFrom case run x (IsWorkFrom case.topology run x)) (feeds_of case.topology reader)
+    → AllByRecursion (WaitsFrom x reader) (deliveries_of case.topology run.made run.next entry)
+caused-sent_from case history run entry x reader name cause effects caused runs ids in_time feeds =
+    caused-sent case run entry name cause effects caused (WaitsFrom x reader)
+    (made-from case.topology name.part effects.productions (late_cause run.made entry) run.next x reader
+    (caused-there case run entry name cause effects caused)
+    (λ fed on_time.
+    let work = feeding-computation case run x (IsWorkFrom case.topology run x) name.part caused.outcome.kind caused.outcome.of_part
+    (All-contains (FeedsFrom case run x (IsWorkFrom case.topology run x)) (feeds_of case.topology reader) name.part
+    (All-from_recursion (FeedsFrom case run x (IsWorkFrom case.topology run x)) (feeds_of case.topology reader) feeds) fed) in
+    productions-from x cause effects.productions
+    (caused-from case run entry x name cause effects caused work (sym (ap not (caused.late history ids)) ∙ on_time))
+    (caused-productions case run entry name cause effects in_time caused runs)))
+
 -- what an entry makes for a part is no older than a bound of what feeds the part
 sent-from : (case : CaseShape) (history : List Entry) (run : Run) (entry : Entry) (x reader : ℕ) → IsRunnable case → AreIds history run
     → AreInTime run → MayFollow case run entry
@@ -151,29 +171,10 @@ sent-from case history run (Inject seq part line item) x reader runs ids in_time
     let later = injected-from case run seq part line item runs may on_time in
     (omega (arith, from, later), tt))
 sent-from case history run (Handle seq row id effects) x reader runs ids in_time may feeds =
-    let kind = was_some (λ (kind : Kind). effects_of kind row.key (row_of case.topology run row).state (OfRecord may.delivery.item))
-    (kind_of case.topology row.part) effects may.does in
-    made-from case.topology row.part effects.productions (late_cause run.made (Handle seq row id effects)) run.next x reader
-    (kind-there case.topology row.part kind.0 kind.1)
-    (λ fed on_time.
-    let work = feeding-computation case run x (IsWorkFrom case.topology run x) row.part kind.0 kind.1
-    (All-contains (FeedsFrom case run x (IsWorkFrom case.topology run x)) (feeds_of case.topology reader) row.part
-    (All-from_recursion (FeedsFrom case run x (IsWorkFrom case.topology run x)) (feeds_of case.topology reader) feeds) fed) in
-    productions-from x may.delivery.item.stamp effects.productions
-    (handled-from case run x seq row id effects may work
-    (sym (ap not (handled-late case history run seq row id effects ids may)) ∙ on_time))
-    (handle-after case run seq row id effects runs in_time may).productions)
+    caused-sent_from case history run _ x reader row _ effects (caused-handle case run seq row id effects row may refl) runs ids in_time feeds
 sent-from case history run (Fire seq row timer mark effects) x reader runs ids in_time may feeds =
-    let kind = was_some (λ (kind : Kind). effects_of kind row.key (row_of case.topology run row).state (OfTimer timer))
-    (kind_of case.topology row.part) effects may.does in
-    made-from case.topology row.part effects.productions timer.late run.next x reader (kind-there case.topology row.part kind.0 kind.1)
-    (λ fed on_time.
-    let work = feeding-computation case run x (IsWorkFrom case.topology run x) row.part kind.0 kind.1
-    (All-contains (FeedsFrom case run x (IsWorkFrom case.topology run x)) (feeds_of case.topology reader) row.part
-    (All-from_recursion (FeedsFrom case run x (IsWorkFrom case.topology run x)) (feeds_of case.topology reader) feeds) fed) in
-    productions-from x timer.time effects.productions
-    (each-at (DueFrom x) (row_of case.topology run row).timers 0 timer (work.timers row refl) may.least_timer on_time)
-    (fire-after case run seq row timer mark effects in_time may).productions)
+    caused-sent_from case history run _ x reader row _ effects (caused-fire case run seq row timer mark effects row may refl) runs ids
+    in_time feeds
 sent-from case history run _ x reader runs ids in_time may feeds = tt
 
 -- a timer that is set again is due from a bound of both settings
@@ -185,23 +186,28 @@ set_again-from x t u same one other = by_late t.late u.late one other
     by_late false true one other e = let first = one refl in omega (arith, first, same)
     by_late true true one other e = cc
 
+-- the timers that a cause leaves in its row are due from a bound of the part's work
+caused-timers_from : (case : CaseShape) (run : Run) (entry : Entry) (sent : List Delivery) (x : ℕ) (name : RowName) (cause : Cause)
+    (effects : EffectsView) → IsCaused case run entry name cause effects → IsRunnable case → AreInTime run
+    → IsWorkFrom case.topology run x name.part → AllByRecursion (DueFrom x) (changed entry sent (row_of case.topology run name)).timers
+caused-timers_from case run entry sent x name cause effects caused runs in_time work =
+    caused.timers (DueFrom x) (set_again-from x) sent (row_of case.topology run name)
+    (each-weaker (IsTimerAfter cause) (DueFrom x)
+    (λ t (after : IsTimerAfter cause t) on_time.
+    let later = after.after in
+    let from = caused-from case run entry x name cause effects caused work (sym (ap not after.as_late) ∙ on_time) in
+    omega (arith, later, from))
+    effects.timers (caused-timers case run entry name cause effects in_time caused runs)) (work.timers name refl)
+
 -- the timers that an entry leaves in a row of a part are due from a bound of the part's work
 timers-from : (case : CaseShape) (run : Run) (entry : Entry) (sent : List Delivery) (x : ℕ) (name : RowName) → IsRunnable case
     → AreInTime run → MayFollow case run entry
     → row_written entry ≡ Some name → IsWorkFrom case.topology run x name.part
     → AllByRecursion (DueFrom x) (changed entry sent (row_of case.topology run name)).timers
 timers-from case run (Handle seq row id effects) sent x name runs in_time may written work =
-    let here : IsWorkFrom case.topology run x row.part = subst (λ (n : RowName). IsWorkFrom case.topology run x n.part)
-    (sym (some_same row name written)) work in
-    with_timers-each (DueFrom x) (set_again-from x) effects.timers (row_of case.topology run name).timers
-    (each-weaker (IsTimerAfter may.delivery.item.stamp may.delivery.item.late) (DueFrom x)
-    (λ t (after : IsTimerAfter may.delivery.item.stamp may.delivery.item.late t) on_time.
-    let later = after.after in
-    let from = handled-from case run x seq row id effects may here (sym (ap not after.as_late) ∙ on_time) in omega (arith, later, from))
-    effects.timers (handle-after case run seq row id effects runs in_time may).timers)
-    (work.timers name refl)
+    caused-timers_from case run _ sent x name _ effects (caused-handle case run seq row id effects name may written) runs in_time work
 timers-from case run (Fire seq row timer mark effects) sent x name runs in_time may written work =
-    each-filter (DueFrom x) (λ t. not (is_timer timer.tag timer.time t)) (row_of case.topology run name).timers (work.timers name refl)
+    caused-timers_from case run _ sent x name _ effects (caused-fire case run seq row timer mark effects name may written) runs in_time work
 timers-from case run _ sent x name runs in_time may written work = work.timers name refl
 
 -- one more entry makes no older work for a part, where what feeds the part has none
@@ -273,15 +279,9 @@ changed-cursor : (case : CaseShape) (run : Run) (entry : Entry) (sent : List Del
     → IsNextOr (cursor_in (changed entry sent (row_of case.topology run name)).state) (cursor_in (row_of case.topology run name).state)
 changed-cursor case run (Inject seq part line item) sent name may is written = advanced-next (row_of case.topology run name).state
 changed-cursor case run (Handle seq row id effects) sent name may is written =
-    let kind = was_some (λ (kind : Kind). effects_of kind row.key (row_of case.topology run row).state (OfRecord may.delivery.item))
-    (kind_of case.topology row.part) effects may.does in
-    absurd (injector-no_kind case.topology row.part kind.0
-    (subst (λ (n : RowName). is_injector case.topology n.part ≡ true) (sym (some_same row name written)) is) kind.1)
+    absurd (caused-no_injector case run _ name _ effects (caused-handle case run seq row id effects name may written) is)
 changed-cursor case run (Fire seq row timer mark effects) sent name may is written =
-    let kind = was_some (λ (kind : Kind). effects_of kind row.key (row_of case.topology run row).state (OfTimer timer))
-    (kind_of case.topology row.part) effects may.does in
-    absurd (injector-no_kind case.topology row.part kind.0
-    (subst (λ (n : RowName). is_injector case.topology n.part ≡ true) (sym (some_same row name written)) is) kind.1)
+    absurd (caused-no_injector case run _ name _ effects (caused-fire case run seq row timer mark effects name may written) is)
 changed-cursor case run _ sent name may is written = inl refl
 
 -- one more entry makes no injector state an earlier watermark
