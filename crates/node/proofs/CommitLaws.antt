@@ -1,5 +1,5 @@
 -- What a node is once an entry that it asked for stands.
-use Rattle.std.proofs.Common.{◌≡◌, ◌∙◌, ◌≤◌, ℕ, true, false, ◌||◌, List, [], ◌∷◌, ◌++◌, length, refl, sym, ap, subst, inl, inr}
+use Rattle.std.proofs.Common.{◌≡◌, ◌∙◌, ℕ, true, false, ◌||◌, List, [], ◌∷◌, ◌++◌, length, refl, sym, ap, subst, inl, inr}
 use Rattle.std.specs.Prelude.{All, IfSome, Option, Some, None}
 use Rattle.std.specs.List.{list_any}
 use Rattle.std.specs.Option.{option_and_then, option_map, option_map_or}
@@ -42,7 +42,6 @@ use Rattle.node.specs.declared.outcome.Outcome.TheVariants as outcomes
 use Rattle.outbox.specs.declared.outgoing.Outgoing.TheVariants as outgoing
 use Rattle.node.proofs.FitLaws.{HasMore, more-appended, outbox-more}
 use Rattle.outbox.proofs.SendLaws.{made-late, made-outgoing}
-use Rattle.node.proofs.StateLaws.{few-handled, state-held}
 use Rattle.node.proofs.PurgeLaws.{held-at-on, held-on-at}
 
 -- ---- an entry that stands
@@ -241,10 +240,3 @@ pub work-known : (case : CaseShape) (desk : DeskView) (all : List (Option HeldVi
 work-known case desk all sender delivery effects proposal is same work = subst (IsKnownOf desk delivery.to) (sym is)
     (subst (λ (k : CaseShape). IfSome desk.told (λ _. found_delivery delivery.id (run_of k.topology desk.seen).made ≡ Some delivery)) (sym same)
     (told-then desk.told (λ _. IsSentFrom case desk.seen sender delivery) _ work.sent.so (λ x sent. sent.made)))
-
--- and has few productions
-pub work-few : (case : CaseShape) (desk : DeskView) (all : List (Option HeldView)) (sender : RowName) (delivery : Delivery)
-    (effects : EffectsView) → AreAllHeld case desk all → IsHandled case desk all sender delivery effects → length effects.productions ≤ 8
-work-few case desk all sender delivery effects fit work =
-    few-handled case delivery.to (row_held case.topology work.held delivery.to) delivery.item effects
-    (state-held case desk all delivery.to work.held fit work.sent.addressed.to work.there) work.handling.does

@@ -1,7 +1,6 @@
 -- What a node leaves when a timer fires.
-use Rattle.std.proofs.Common.{◌≡◌, ◌∙◌, ◌<◌, ◌≤◌, ◌+◌, ◌^◌, ℕ, List, [], ◌∷◌, ◌++◌, length, refl, sym, ap, subst, arith}
+use Rattle.std.proofs.Common.{◌≡◌, ◌∙◌, ◌<◌, ◌+◌, ◌^◌, ℕ, List, [], ◌∷◌, ◌++◌, length, refl, sym, ap, subst, arith}
 use Rattle.std.specs.Prelude.{All, IfErr, IfOk, IfSome, Option, Some, None, Result, slice_get, unwrap_or}
-use Rattle.std.specs.Option.{option_map}
 use Rattle.std.proofs.lemmas.List.{length-append}
 use Rattle.std.proofs.lemmas.List.Elements.{All-append}
 use Rattle.list_lemmas.proofs.Told.{if-anyway}
@@ -9,10 +8,9 @@ use Rattle.mw_types.specs.Outcomes.{EffectsView}
 use Rattle.mw_types.specs.declared.entry.Entry.{Entry}
 use Rattle.mw_types.specs.declared.entry.Entry.TheVariants as entries
 use Rattle.mw_types.specs.declared.identity.RowName.{RowName}
-use Rattle.mw_types.specs.declared.kind.Kind.{Kind}
 use Rattle.mw_types.specs.declared.timer.Timer.{Timer}
 use Rattle.topology.specs.Shapes.{Shape}
-use Rattle.computations.specs.Handlers.{effects_of, OfTimer}
+use Rattle.computations.specs.Handlers.{OfTimer}
 use Rattle.row_parts.specs.Contents.{Contents, fresh}
 use Rattle.run_history.specs.Cases.{CaseShape, fresh_of}
 use Rattle.run_history.specs.Fences.{interval_of}
@@ -26,7 +24,6 @@ use Rattle.book.specs.Desks.{DeskView, HasLooked, IsSound}
 use Rattle.book.specs.Proposals.{IsProposable}
 use Rattle.book.specs.declared.answers.Written.{Written}
 use Rattle.book.specs.declared.proposal.Proposal.TheVariants as proposals
-use Rattle.book.proofs.ProposalLaws.{timer-suits}
 use Rattle.holdings.specs.Holding.{AreAllHeld, HeldView, held_at, row_held}
 use Rattle.holdings.specs.declared.first_timer.RowTimer.{RowTimer}
 use Rattle.node.specs.Answers.{AnswersFire, AnswersSome, FailsFire, FailsSome, HasGrown, IsLeastKnown, made_of}
@@ -78,16 +75,6 @@ set-at case desk node part mark interval name timer fit of covers next =
 pub set-held : (shape : Shape) (all : List (Option HeldView)) (interval : ℕ) (name : RowName) (timer : Timer)
     (set : IsSetAt shape all interval name timer) → row_held shape set.held name ≡ set.row
 set-held shape all interval name timer set = ap (λ (o : Option Contents). unwrap_or o (fresh (fresh_of shape name.part))) set.row_there
-
--- a handler makes few records of a timer
-pub few-fired : (case : CaseShape) (name : RowName) (row : Contents) (timer : Timer) (effects : EffectsView)
-    → IsStateThere case.topology name.part row.state → outcome_of case name row (OfTimer timer) ≡ Some effects
-    → length effects.productions ≤ 8
-few-fired case name row timer effects there does =
-    let kind = there.0 in
-    let same : effects_of kind name.key row.state (OfTimer timer) ≡ effects = some_same _ _
-    (sym (ap (option_map (λ (k : Kind). effects_of k name.key row.state (OfTimer timer))) there.1) ∙ does) in
-    subst (λ (o : EffectsView). length o.productions ≤ 8) same (timer-suits kind name.key row.state timer there.2).1
 
 -- it may be proposed that it fires
 pub fire-proposable : (case : CaseShape) (all : List (Option HeldView)) (interval : ℕ) (name : RowName) (timer : Timer) (mark : ℕ)

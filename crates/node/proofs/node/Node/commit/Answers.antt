@@ -1,6 +1,8 @@
 use Rattle.std.proofs.Common.{◌≡◌, ◌∙◌, ap, subst, sym, refl}
 use Rattle.std.specs.Prelude.{IfErr, IfOk, IsSome, OnErr, Option, Some, Result}
-use Rattle.holdings.specs.Holding.{HeldView, IsRefusedOf}
+use Rattle.computations.specs.Handlers.{OfRecord}
+use Rattle.history_laws.proofs.Caused.{IsOutcome-does}
+use Rattle.holdings.specs.Holding.{HeldView, IsRefusedOf, row_held}
 use Rattle.node.specs.declared.outcome.NodeFault.{NodeFault}
 use Rattle.node.specs.declared.outcome.Outcome.{Outcome}
 use Rattle.node.specs.declared.outcome.Outcome.TheVariants as outcomes
@@ -8,7 +10,7 @@ use Rattle.node.specs.Answers.{AnswersAsked, FailsAsked, HasGrown, HasKept}
 use Rattle.node.specs.Asking.{work_asked}
 use Rattle.node.specs.Fits.{Fits}
 use Rattle.node.specs.Workers.{NodeView, WorkView, sending_of, with_written, worker_at}
-use Rattle.node.proofs.CommitLaws.{answers-written, work-few, work-known, work-of, work-proposable}
+use Rattle.node.proofs.CommitLaws.{answers-written, work-known, work-of, work-proposable}
 use Rattle.node.proofs.FitLaws.{Fits-kept, Fits-yielded, keeps-refused, more-looked, node_in, worker-kept}
 use Rattle.node.proofs.PurgeLaws.{held-at-on}
 use Rattle.node.proofs.WrittenLaws.{Fits-committed, answers-unwritten, fails-unwritten, grown-work, node-written}
@@ -33,8 +35,9 @@ write_work-written-requires-clause-few g c =
     let node : NodeView = node_in c.self.inside in
     let handled = work-of case old node work c.parts-parts.result.0.now c.parts-parts.result.1.now
     (subst (Fits case old) (sym c.self.view_is) c.requires.fits) c.in-Some.is c.parts-parts.ensures in
-    let fits : Fits case old node = subst (Fits case old) (sym c.self.view_is) c.requires.fits in
-    work-few case old node.held work.sender c.parts-parts.result.0.now c.parts-parts.result.1.now fits.held handled
+    let delivery = c.parts-parts.result.0.now in
+    (IsOutcome-does case delivery.to (row_held case.topology handled.held delivery.to) (OfRecord delivery.item)
+    c.parts-parts.result.1.now handled.handling.does).leaves.productions.few
 
 -- the row is held
 pub write_work-written-requires-clause-there : goal.write_work-written-requires-clause-there
