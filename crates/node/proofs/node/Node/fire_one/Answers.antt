@@ -10,7 +10,8 @@ use Rattle.node.specs.Asking.{IsNextTimer, MayAskFire}
 use Rattle.node.specs.FireSteps.{IsLeftByHandler, IsSetAt}
 use Rattle.node.specs.Fits.{Fits}
 use Rattle.node.specs.Workers.{NodeView, worker_at}
-use Rattle.node.proofs.FiringLaws.{Fits-fired, answers-fired, fired-last, firing, grown-fired, may-fire, set-at, small-number}
+use Rattle.node.proofs.CommitLaws.{grown-by, small-number}
+use Rattle.node.proofs.FiringLaws.{Fits-fired, answers-fired, appended-fire, firing, may-fire, set-at}
 use Rattle.node.proofs.FitLaws.{Fits-kept, Fits-yielded, keeps-refused, more-looked, node_in, worker-kept}
 use Rattle.node.proofs.PurgeLaws.{answers-some, ok-answers}
 use Rattle.node.proofs.RefusedLaws.{fails-at, fails-some, refused-held}
@@ -50,7 +51,7 @@ returns-in-Ok-clause-fits g c =
     let fits : Fits case old node = subst (Fits case old) (sym c.self.view_is) c.requires.fits in
     let next = subst (λ (n : NodeView). IsNextTimer case.topology n name.part c.args.mark name timer) (sym c.self.view_is)
     c.requires.next in
-    let last = fired-last case.topology old new interval name timer c.args.mark effects commit node.held c.write_fire-written.new.held
+    let last = appended-fire case.topology old new interval name timer c.args.mark effects commit node.held c.write_fire-written.new.held
     c.in-Ok.ensures.fired in
     let small = small-number old new c.in-Ok.ensures.fired.held.lease _ commit c.sound-2.ensures.sound last in
     subst (λ (l : List Outgoing). Fits case new (record node { held = c.write_fire-written.new.held; outbox = l }))
@@ -89,8 +90,10 @@ returns-in-Ok-clause-grown g c =
     let old = g.D.Desk.view c.args.desk.now in
     let new = g.D.Desk.view c.write_fire-written.new.desk in
     subst (λ (n : NodeView). HasGrown n.held old new) c.self.view_is
-    (grown-fired c.args.case.now.topology old new c.interval_of-interval.result c.args.found.now.name c.args.found.now.timer c.args.mark
-    c.in_ok-effects.effects c.in-Ok.commit c.self.inside.held c.write_fire-written.new.held c.in-Ok.ensures.fired)
+    (grown-by c.self.inside.held old new c.interval_of-interval.result c.in-Ok.ensures.fired.held _ c.in-Ok.commit
+    c.in-Ok.ensures.fired.was (appended-fire c.args.case.now.topology old new c.interval_of-interval.result c.args.found.now.name
+    c.args.found.now.timer c.args.mark c.in_ok-effects.effects c.in-Ok.commit c.self.inside.held c.write_fire-written.new.held
+    c.in-Ok.ensures.fired) refl)
 
 -- where the desk refused
 pub returns-in-Err-clause-fits : goal.returns-in-Err-clause-fits

@@ -4,6 +4,7 @@ use Rattle.mw_types.specs.declared.identity.RowName.{RowName}
 use Rattle.topology.specs.Shapes.{Shape}
 use Rattle.run_history.specs.Cases.{CaseShape}
 use Rattle.run_history.specs.Fences.{interval_of}
+use Rattle.book.specs.declared.proposal.Proposal.TheVariants as proposals
 use Rattle.holdings.specs.Holding.{IsRefusedOf}
 use Rattle.node.specs.declared.outcome.NodeFault.{NodeFault}
 use Rattle.node.specs.declared.outcome.Outcome.{Outcome}
@@ -12,8 +13,9 @@ use Rattle.outbox.specs.declared.outgoing.Outgoing.{Outgoing}
 use Rattle.node.specs.Answers.{AnswersAsked, FailsAsked, HasGrown, HasKept}
 use Rattle.node.specs.Asking.{line_asked}
 use Rattle.node.specs.Fits.{Fits}
-use Rattle.node.specs.LineSteps.{HoldsLine, IsLineNext, line_deliveries}
+use Rattle.node.specs.LineSteps.{IsLineNext, line_deliveries}
 use Rattle.outbox.specs.Messages.{IsAddressed, messages_from}
+use Rattle.outbox.specs.WorkSteps.{HoldsWork}
 use Rattle.node.specs.Workers.{NodeView, worker_at}
 use Rattle.node.proofs.FitLaws.{Fits-kept, Fits-yielded, keeps-refused, more-looked, node_in, worker-kept}
 use Rattle.node.proofs.LineLaws.{Fits-injected, answers-injected, answers-uninjected, fails-uninjected, grown-line, next-line}
@@ -54,7 +56,7 @@ returns-in-Ok-clause-fits g c =
     (messages_from n (line_deliveries shape n.part item number))) named
     (subst (λ (t : Shape). (number : ℕ) → number < 2 ^ 32 → All (IsAddressed t)
     (messages_from c.args.name.now (line_deliveries t c.args.name.now.part item number))) topology c.in_ok-made.ensures.addressed) in
-    let written = subst (λ (n : RowName). HoldsLine shape old new interval n line commit node.held c.write_line-written.new.held) named
+    let written = subst (λ (n : RowName). HoldsWork shape old new interval n (proposals.Inject line) commit node.held c.write_line-written.new.held) named
     c.in-Ok.ensures.injected in
     subst (λ (l : List Outgoing). Fits case new (record node { held = c.write_line-written.new.held; outbox = l })) (sym out)
     (Fits-injected case old new node interval part line item commit c.write_line-written.new.held c.in_ok-item.ensures.item
@@ -80,7 +82,7 @@ returns-in-Ok-clause-answers g c =
     ∙ ap (λ (l : List Outgoing). node.outbox ++ l) (c.in_ok-made.ensures.made commit
     ∙ ap (λ (t : Shape). messages_from c.args.name.now (line_deliveries t c.args.name.now.part item commit)) topology
     ∙ ap (λ (n : RowName). messages_from n (line_deliveries shape n.part item commit)) named) in
-    let written = subst (λ (n : RowName). HoldsLine shape old new interval n line commit node.held c.write_line-written.new.held) named
+    let written = subst (λ (n : RowName). HoldsWork shape old new interval n (proposals.Inject line) commit node.held c.write_line-written.new.held) named
     c.in-Ok.ensures.injected in
     let covers = subst (λ (n : RowName). interval_of shape n ≡ Some interval) named c.interval_of-interval.ensures.interval in
     let left : List Outgoing → NodeView = λ l. record node { held = c.write_line-written.new.held; outbox = l } in
@@ -95,7 +97,7 @@ pub returns-in-Ok-clause-grown : goal.returns-in-Ok-clause-grown
 returns-in-Ok-clause-grown g c =
     let old = g.D.Desk.view c.args.desk.now in
     let new = g.D.Desk.view c.write_line-written.new.desk in
-    let written = subst (λ (n : RowName). HoldsLine c.args.case.now.topology old new c.interval_of-interval.result n c.args.line
+    let written = subst (λ (n : RowName). HoldsWork c.args.case.now.topology old new c.interval_of-interval.result n (proposals.Inject c.args.line)
     c.in-Ok.commit c.self.inside.held c.write_line-written.new.held) c.requires.name c.in-Ok.ensures.injected in
     subst (λ (n : NodeView). HasGrown n.held old new) c.self.view_is
     (grown-line c.args.case.now old new c.interval_of-interval.result c.args.part c.args.line c.in_ok-item.item c.in-Ok.commit
