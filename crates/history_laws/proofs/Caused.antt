@@ -1,6 +1,6 @@
 -- What a record or a timer brings about in a row: what entries of both kinds have in common.
-use Rattle.std.proofs.Common.{◌≡◌, ◌≤◌, ℕ, Bool, false, true, List, [], ◌∷◌, ◌++◌, length, refl, sym, ◌∙◌, ap, subst, arith}
-use Rattle.std.specs.Prelude.{⊤, Option, Some, not, slice_get}
+use Rattle.std.proofs.Common.{◌≡◌, ◌<◌, ◌≤◌, ℕ, false, true, List, [], ◌∷◌, ◌++◌, length, refl, sym, ap, subst}
+use Rattle.std.specs.Prelude.{Option, Some, not, slice_get}
 use Rattle.std.specs.List.{AllByRecursion}
 use Rattle.std.specs.Option.{option_map_or}
 use Rattle.std.specs.Ordering.{match_ordering}
@@ -19,7 +19,7 @@ use Rattle.mw_types.specs.declared.entry.Entry.{Entry}
 use Rattle.mw_types.specs.declared.entry.Entry.TheVariants.{Handle, Fire}
 use Rattle.mw_types.specs.Orders.{timer_cmp}
 use Rattle.mw_types.specs.Outcomes.{EffectsView}
-use Rattle.topology.specs.Shapes.{Shape, parts_of, kind_of}
+use Rattle.topology.specs.Shapes.{parts_of, kind_of}
 use Rattle.computations.specs.Handlers.{Cause, OfRecord, OfTimer, is_late_cause, effects_of}
 use Rattle.computations.specs.Leaving.{Leaves}
 use Rattle.computations.specs.LeavingLaws.{effects-leave}

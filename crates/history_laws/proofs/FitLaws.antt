@@ -1,18 +1,14 @@
 -- Each row of a legal history fits its name.
-use Rattle.std.proofs.Common.{◌≡◌, ◌==◌, ℕ, ℤ, ◌+◌, ◌<◌, ◌≤◌, Bool, true, false, cond, Option, Some, None, List, [], length, refl, sym, ◌∙◌, ap, subst, arith, ◌&&◌}
-use Rattle.std.specs.Prelude.{⊤, MatchOption, filter, not, nat_lt, nat_le}
+use Rattle.std.proofs.Common.{◌≡◌, ◌==◌, ℕ, ◌+◌, ◌<◌, ◌≤◌, Bool, true, false, cond, Option, Some, None, List, [], length, refl, sym, ◌∙◌, ap, subst, arith, ◌&&◌}
+use Rattle.std.specs.Prelude.{⊤, MatchOption, not, nat_lt, nat_le}
 use Rattle.std.specs.Option.{option_map_or}
 use Rattle.std.specs.List.{AllByRecursion, list_all}
 use Rattle.std.proofs.lemmas.Bool.{and_from, lt-ltb, le-leb}
 use Rattle.mw_types.specs.declared.identity.RowName.{RowName}
-use Rattle.mw_types.specs.declared.record.Record.{Record}
-use Rattle.mw_types.specs.declared.timer.Timer.{Timer}
 use Rattle.mw_types.specs.declared.kind.Kind.{Kind}
 use Rattle.mw_types.specs.declared.kind.Kind.TheVariants as kinds
 use Rattle.mw_types.specs.declared.state.State.{State}
 use Rattle.mw_types.specs.declared.state.State.TheVariants as states
-use Rattle.mw_types.specs.declared.state.Window.{Window}
-use Rattle.mw_types.specs.declared.state.HeldTotal.{HeldTotal}
 use Rattle.mw_types.specs.declared.delivery.Delivery.{Delivery}
 use Rattle.mw_types.specs.declared.entry.Entry.{Entry}
 use Rattle.mw_types.specs.declared.entry.Entry.TheVariants.{Claim, Inject, Handle, Fire, Ack, Purge}
@@ -27,10 +23,10 @@ use Rattle.run_history.specs.Runs.{Run, run_of, row_of, followed, changed, advan
 use Rattle.run_history.specs.Legal.{MayFollow, IsLegal}
 use Rattle.run_history.specs.Fits.{is_cursor_within, is_sent_before, suits_part, fits}
 use Rattle.run_history.proofs.Fitting.{kind-none, kind-some, passes-each, fresh_state-kind}
-use Rattle.list_lemmas.proofs.Lists.{some_same, each-append, each-all, each-weaker, each-filter, each-both}
+use Rattle.list_lemmas.proofs.Lists.{each-append, each-all, each-weaker, each-filter, each-both}
 use Rattle.history_laws.proofs.Along.{along_history}
 use Rattle.history_laws.proofs.Made.{deliveries_made-each}
-use Rattle.history_laws.proofs.FeedLaws.{consumers-there, injector-no_kind}
+use Rattle.history_laws.proofs.FeedLaws.{consumers-there}
 use Rattle.history_laws.proofs.IdLaws.{next-length}
 use Rattle.history_laws.proofs.Caused.{IsCaused, caused-handle, caused-fire, caused-no_injector}
 use Rattle.history_laws.proofs.RowSteps.{row_of-step, pending-in_order, row_of-in_order}

@@ -1,5 +1,5 @@
 -- What a legal history makes, and where it goes, has a key of at most 256 bytes of UTF-8.
-use Rattle.std.proofs.Common.{◌≡◌, ℕ, ◌+◌, ◌<◌, ◌==◌, Bool, true, false, cond, List, [], ◌∷◌, length, get_or, refl, sym, ◌∙◌, subst, arith, inl, inr}
+use Rattle.std.proofs.Common.{◌≡◌, ℕ, ◌+◌, ◌<◌, ◌==◌, Bool, true, false, List, [], ◌∷◌, length, get_or, refl, sym, ◌∙◌, subst, arith, inl, inr}
 use Rattle.std.specs.Prelude.{⊤, Option, Some, None, All, IsSome, not, slice_get, unwrap_or}
 use Rattle.std.specs.Option.{option_map}
 use Rattle.std.specs.List.{AllByRecursion, after_first, before_first, position_or_len}
@@ -13,12 +13,6 @@ use Rattle.mw_types.specs.declared.identity.RowName.{RowName}
 use Rattle.mw_types.specs.declared.record.Record.{Record}
 use Rattle.mw_types.specs.declared.record.Production.{Production}
 use Rattle.mw_types.specs.declared.timer.Timer.{Timer}
-use Rattle.mw_types.specs.declared.kind.Kind.{Kind}
-use Rattle.mw_types.specs.declared.kind.Kind.TheVariants as kinds
-use Rattle.mw_types.specs.declared.state.State.{State}
-use Rattle.mw_types.specs.declared.state.State.TheVariants as states
-use Rattle.mw_types.specs.declared.state.Window.{Window}
-use Rattle.mw_types.specs.declared.state.HeldTotal.{HeldTotal}
 use Rattle.mw_types.specs.declared.delivery.Delivery.{Delivery}
 use Rattle.mw_types.specs.declared.entry.Entry.{Entry}
 use Rattle.mw_types.specs.declared.entry.Entry.TheVariants.{Claim, Inject, Handle, Fire, Ack, Purge}
@@ -26,7 +20,7 @@ use Rattle.mw_types.specs.Outcomes.{EffectsView}
 use Rattle.injector.specs.Sources.{Source, SourceLine, item_at}
 use Rattle.topology.specs.declared.subscription.By.{By}
 use Rattle.topology.specs.declared.subscription.By.TheVariants.{Key, Head, Tail}
-use Rattle.topology.specs.Shapes.{Shape, consumers_of, extracted, kind_of, or_whole}
+use Rattle.topology.specs.Shapes.{Shape, consumers_of, extracted, or_whole}
 use Rattle.computations.specs.Handlers.{Cause}
 use Rattle.computations.specs.Leaving.{HasKey}
 use Rattle.row_parts.specs.Contents.{Contents, fresh, same_id, found_delivery}
@@ -191,10 +185,10 @@ sent-keys case run (Inject seq part line item) keyed keys may =
     made-keys case.topology part (record { key = item.key; stamp = item.stamp; value = item.value } ∷ []) item.late run.next
     (injected-key case part line item keyed may.of_line, tt)
 sent-keys case run (Handle seq row id effects) keyed keys may =
-    caused-keys case run _ row _ effects keys (written-key case run _ row keys may refl)
+    caused-keys case run _ row _ effects keys (written-key case run (Handle seq row id effects) row keys may refl)
     (caused-handle case run seq row id effects row may refl)
 sent-keys case run (Fire seq row timer mark effects) keyed keys may =
-    caused-keys case run _ row _ effects keys (written-key case run _ row keys may refl)
+    caused-keys case run _ row _ effects keys (written-key case run (Fire seq row timer mark effects) row keys may refl)
     (caused-fire case run seq row timer mark effects row may refl)
 sent-keys case run _ keyed keys may = tt
 

@@ -15,7 +15,7 @@ use Rattle.mw_types.specs.Outcomes.{EffectsView}
 use Rattle.topology.specs.Shapes.{Shape, consumers_of, feeds_of}
 use Rattle.computations.specs.Handlers.{Cause, OfRecord, OfTimer, stamp_of, is_late_cause}
 use Rattle.computations.specs.Leaving.{IsTimerAfter}
-use Rattle.row_parts.specs.Contents.{Contents, is_timer, same_id, found_delivery}
+use Rattle.row_parts.specs.Contents.{Contents, same_id, found_delivery}
 use Rattle.run_history.specs.Cases.{CaseShape, is_injector}
 use Rattle.run_history.specs.Made.{row_written, late_cause, deliveries_of, deliveries_made}
 use Rattle.run_history.specs.Runs.{Run, row_of, followed, changed}

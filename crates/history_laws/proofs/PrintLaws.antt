@@ -1,26 +1,17 @@
 -- Each row that an entry is on is of a part that is there, and a legal history that is not too long can be printed.
-use Rattle.std.proofs.Common.{◌==◌, ℕ, ℤ, ◌<◌, ◌≤◌, ◌^◌, true, false, cond, Option, Some, None, List, [], ◌∷◌, ◌++◌, length, refl, subst, arith, inl, inr}
-use Rattle.std.specs.Prelude.{IfSome, IsSome, filter, not, unwrap_or}
+use Rattle.std.proofs.Common.{◌<◌, ◌≤◌, ◌^◌, Option, Some, None, List, [], ◌∷◌, ◌++◌, length, refl, subst, arith, inl, inr}
+use Rattle.std.specs.Prelude.{IfSome, IsSome, unwrap_or}
 use Rattle.std.specs.List.{AllByRecursion}
 use Rattle.std.proofs.lemmas.Bool.{ltb-true}
 use Rattle.std.proofs.lemmas.List.Elements.{All-from_recursion}
 use Rattle.mw_types.specs.declared.identity.RowName.{RowName}
-use Rattle.mw_types.specs.declared.record.Record.{Record}
-use Rattle.mw_types.specs.declared.timer.Timer.{Timer}
-use Rattle.mw_types.specs.declared.kind.Kind.{Kind}
-use Rattle.mw_types.specs.declared.kind.Kind.TheVariants as kinds
-use Rattle.mw_types.specs.declared.state.State.{State}
-use Rattle.mw_types.specs.declared.state.State.TheVariants as states
-use Rattle.mw_types.specs.declared.state.Window.{Window}
-use Rattle.mw_types.specs.declared.state.HeldTotal.{HeldTotal}
 use Rattle.mw_types.specs.declared.entry.Entry.{Entry}
 use Rattle.mw_types.specs.declared.entry.Entry.TheVariants.{Claim, Inject, Handle, Fire, Ack, Purge}
-use Rattle.mw_types.specs.Outcomes.{EffectsView}
-use Rattle.topology.specs.Shapes.{parts_of, injectors_of, kind_of}
+use Rattle.topology.specs.Shapes.{parts_of, injectors_of}
 use Rattle.row_parts.specs.Contents.{Contents, fresh, found_delivery}
 use Rattle.run_history.specs.Cases.{CaseShape, fresh_of}
 use Rattle.run_history.specs.Made.{productions_of}
-use Rattle.run_history.specs.Runs.{Run, run_of, row_in, row_of, followed}
+use Rattle.run_history.specs.Runs.{Run, run_of, row_in, followed}
 use Rattle.run_history.specs.Legal.{MayFollow, IsLegal}
 use Rattle.run_history.specs.Printing.{IsOnPart, IsPrintable}
 use Rattle.list_lemmas.proofs.Lists.{each-append}

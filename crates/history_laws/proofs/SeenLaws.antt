@@ -9,11 +9,10 @@ use Rattle.std.proofs.lemmas.List.Elements.{recursion_from_All}
 use Rattle.list_lemmas.proofs.Places.{each-behind}
 use Rattle.mw_types.specs.declared.identity.RecordId.{RecordId}
 use Rattle.mw_types.specs.declared.identity.RowName.{RowName}
-use Rattle.mw_types.specs.declared.kind.Kind.{Kind}
 use Rattle.mw_types.specs.declared.delivery.Delivery.{Delivery}
 use Rattle.mw_types.specs.declared.entry.Entry.{Entry}
 use Rattle.mw_types.specs.declared.entry.Entry.TheVariants.{Claim, Inject, Handle, Fire, Ack, Purge}
-use Rattle.topology.specs.Shapes.{Shape, kind_of}
+use Rattle.topology.specs.Shapes.{Shape}
 use Rattle.computations.specs.Handlers.{OfRecord, OfTimer}
 use Rattle.row_parts.specs.Contents.{Contents, same_id, cursor_in, found_delivery}
 use Rattle.run_history.specs.Cases.{CaseShape}

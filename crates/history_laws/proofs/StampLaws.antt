@@ -3,43 +3,36 @@ use Rattle.std.proofs.Common.{◌≡◌, ℕ, ◌≤◌, Bool, List, [], ◌∷�
 use Rattle.std.specs.Prelude.{⊤, Option, Some, None, All, not, slice_get, unwrap_or}
 use Rattle.std.specs.Option.{option_map}
 use Rattle.std.specs.List.{AllByRecursion}
-use Rattle.std.specs.Ordering.{match_ordering}
-use Rattle.std.specs.declared.cmp.Ordering.TheVariants.{Less, Equal, Greater}
 use Rattle.std.proofs.lemmas.List.Elements.{All-get_or}
-use Rattle.std.proofs.lemmas.Map.Lookups.{exact_unsigned}
 use Rattle.std.proofs.lemmas.Option.{slice_get_within, get_or_from_slice_get}
-use Rattle.list_lemmas.proofs.Places.{each-at}
 use Rattle.mw_types.specs.declared.TheConstants.{MAX_STAMP, INPUT_MAX}
-use Rattle.mw_types.specs.declared.identity.RecordId.{RecordId}
 use Rattle.mw_types.specs.declared.identity.RowName.{RowName}
 use Rattle.mw_types.specs.declared.record.Record.{Record}
 use Rattle.mw_types.specs.declared.record.Production.{Production}
 use Rattle.mw_types.specs.declared.timer.Timer.{Timer}
-use Rattle.mw_types.specs.declared.kind.Kind.{Kind}
 use Rattle.mw_types.specs.declared.delivery.Delivery.{Delivery}
 use Rattle.mw_types.specs.declared.entry.Entry.{Entry}
 use Rattle.mw_types.specs.declared.entry.Entry.TheVariants.{Inject, Handle, Fire}
-use Rattle.mw_types.specs.Orders.{timer_cmp}
 use Rattle.mw_types.specs.Outcomes.{EffectsView}
 use Rattle.injector.specs.Sources.{Source, SourceLine, IsSource, item_at}
-use Rattle.topology.specs.Shapes.{Shape, consumers_of, kind_of}
-use Rattle.computations.specs.Handlers.{Cause, OfRecord, OfTimer, stamp_of}
+use Rattle.topology.specs.Shapes.{Shape, consumers_of}
+use Rattle.computations.specs.Handlers.{Cause, stamp_of}
 use Rattle.computations.specs.Leaving.{IsTimerAfter, IsProductionAfter}
-use Rattle.row_parts.specs.Contents.{Contents, with_timer, set_again, is_timer, same_id}
+use Rattle.row_parts.specs.Contents.{Contents}
 use Rattle.run_history.specs.Cases.{CaseShape, source_of, record_of}
 use Rattle.run_history.specs.Made.{late_cause, deliveries_of, deliveries_made}
-use Rattle.run_history.specs.Runs.{Run, run_of, row_of, followed, changed, with_timers, still_unhandled}
+use Rattle.run_history.specs.Runs.{Run, run_of, row_of, followed, changed, still_unhandled}
 use Rattle.run_history.specs.Legal.{MayFollow, IsLegal}
 use Rattle.run_history.specs.Inputs.{IsRunnable}
 use Rattle.run_history.specs.Finished.{handles}
-use Rattle.list_lemmas.proofs.Lists.{each-append, each-all, each-weaker, each-filter, find-each}
+use Rattle.list_lemmas.proofs.Lists.{each-append, each-all, each-weaker, each-filter}
 use Rattle.history_laws.proofs.Along.{along_history}
 use Rattle.history_laws.proofs.Made.{deliveries_made-each}
 use Rattle.history_laws.proofs.FeedLaws.{kind-ranged}
 use Rattle.history_laws.proofs.PendingLaws.{was_some}
 use Rattle.history_laws.proofs.Caused.{IsCaused, of_standing, caused-handle, caused-fire, caused-sent}
 use Rattle.history_laws.proofs.IdLaws.{still_unhandled-filter}
-use Rattle.history_laws.proofs.RowSteps.{each_row-followed, row_of-each, both_Equal}
+use Rattle.history_laws.proofs.RowSteps.{each_row-followed, row_of-each}
 
 -- ---- sources
 

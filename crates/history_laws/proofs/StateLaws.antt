@@ -1,36 +1,27 @@
 -- The state of each row of a legal history is within bounds, where the history is not too long.
-use Rattle.std.proofs.Common.{◌≡◌, ◌==◌, ℕ, ℤ, ◌+◌, ◌<◌, ◌≤◌, ◌^◌, ◌-◌, true, false, cond, Option, Some, None, List, [], ◌∷◌, length, map, refl, ◌∙◌, ap, subst, arith}
-use Rattle.std.specs.Prelude.{filter, not, nat_lt, slice_get}
-use Rattle.std.specs.Option.{option_map, option_map_or}
-use Rattle.std.specs.Ordering.{match_ordering, nat_cmp}
-use Rattle.std.specs.declared.cmp.Ordering.TheVariants.{Less, Equal, Greater}
-use Rattle.mw_types.specs.declared.TheConstants.{MAX_STAMP}
+use Rattle.std.proofs.Common.{◌≡◌, ◌+◌, ◌<◌, ◌≤◌, ◌^◌, Option, Some, None, List, sym, subst, arith}
+use Rattle.std.specs.Option.{option_map_or}
 use Rattle.mw_types.specs.declared.identity.RowName.{RowName}
-use Rattle.mw_types.specs.declared.record.Record.{Record}
-use Rattle.mw_types.specs.declared.timer.Timer.{Timer}
 use Rattle.mw_types.specs.declared.kind.Kind.{Kind}
 use Rattle.mw_types.specs.declared.kind.Kind.TheVariants as kinds
 use Rattle.mw_types.specs.declared.state.State.{State}
 use Rattle.mw_types.specs.declared.state.State.TheVariants as states
-use Rattle.mw_types.specs.declared.state.Window.{Window}
-use Rattle.mw_types.specs.declared.state.HeldTotal.{HeldTotal}
 use Rattle.mw_types.specs.declared.delivery.Delivery.{Delivery}
 use Rattle.mw_types.specs.declared.entry.Entry.{Entry}
 use Rattle.mw_types.specs.declared.entry.Entry.TheVariants.{Inject, Handle, Fire}
 use Rattle.mw_types.specs.Bounds.{IsWithin}
-use Rattle.mw_types.specs.Outcomes.{EffectsView, AreEffects}
-use Rattle.topology.specs.Shapes.{Shape, ComputationShape, injectors_of, kind_of}
+use Rattle.mw_types.specs.Outcomes.{EffectsView}
+use Rattle.topology.specs.Shapes.{kind_of}
 use Rattle.computations.specs.Handlers.{Cause, fresh_state}
 use Rattle.computations.specs.Laws.{IsShort}
 use Rattle.computations.specs.Leaving.{size_of}
-use Rattle.row_parts.specs.Contents.{Contents, same_id}
+use Rattle.row_parts.specs.Contents.{Contents}
 use Rattle.run_history.specs.Cases.{CaseShape}
 use Rattle.run_history.specs.Made.{row_written, deliveries_of}
 use Rattle.run_history.specs.Runs.{Run, run_of, row_of, followed, changed, advanced}
 use Rattle.run_history.specs.Legal.{MayFollow, IsLegal}
 use Rattle.run_history.specs.Inputs.{IsRunnable}
 use Rattle.run_history.proofs.Fitting.{IsWithin-fresh_state}
-use Rattle.list_lemmas.proofs.Lists.{some_same, find-each, length-filter}
 use Rattle.history_laws.proofs.Along.{along_history}
 use Rattle.history_laws.proofs.FeedLaws.{kind-ranged}
 use Rattle.history_laws.proofs.FitLaws.{AreOfKind, AreOfKind-followed, of_kind, AreOfKind-empty}

@@ -6,7 +6,6 @@ use Rattle.std.specs.List.{AllByRecursion}
 use Rattle.std.specs.Cmp.{first_so, second_so}
 use Rattle.std.proofs.lemmas.Bool.{eqb-true, eq-eqb, ltb-false}
 use Rattle.std.proofs.lemmas.List.Elements.{All-contains, All-from_recursion}
-use Rattle.list_lemmas.proofs.Places.{each-at}
 use Rattle.mw_types.specs.declared.TheConstants.{INPUT_MAX, END}
 use Rattle.mw_types.specs.declared.identity.RecordId.{RecordId}
 use Rattle.mw_types.specs.declared.identity.RowName.{RowName}
@@ -25,7 +24,7 @@ use Rattle.topology.specs.declared.subscription.Subscription.{Subscription}
 use Rattle.topology.specs.Shapes.{Shape, parts_of, injectors_of, feeds_of, kind_of}
 use Rattle.computations.specs.Handlers.{Cause, stamp_of, is_late_cause}
 use Rattle.computations.specs.Leaving.{IsTimerAfter, IsProductionAfter}
-use Rattle.row_parts.specs.Contents.{Contents, set_again, is_timer, same_id, cursor_in}
+use Rattle.row_parts.specs.Contents.{Contents, set_again, cursor_in}
 use Rattle.run_history.specs.Cases.{CaseShape, is_injector, source_of}
 use Rattle.run_history.specs.Made.{row_written, late_cause, deliveries_of, deliveries_made}
 use Rattle.run_history.specs.Runs.{Run, row_of, followed, changed, advanced, still_unhandled}
@@ -33,11 +32,10 @@ use Rattle.run_history.specs.Watermarks.{cursor_of, source_mark}
 use Rattle.run_history.specs.Legal.{MayFollow}
 use Rattle.run_history.specs.Finished.{handles}
 use Rattle.run_history.specs.Inputs.{IsRunnable}
-use Rattle.list_lemmas.proofs.Lists.{none_some, some_same, each-append, each-weaker, each-filter, find-each}
+use Rattle.list_lemmas.proofs.Lists.{none_some, some_same, each-append, each-weaker, each-filter}
 use Rattle.history_laws.proofs.Made.{deliveries_made-each}
 use Rattle.history_laws.proofs.FeedLaws.{consumers-fed, injector-no_kind}
 use Rattle.history_laws.proofs.IdLaws.{AreIds, waits_as_made, still_unhandled-filter}
-use Rattle.history_laws.proofs.PendingLaws.{was_some, kind-there}
 use Rattle.history_laws.proofs.RowSteps.{row_of-step}
 use Rattle.history_laws.proofs.StampLaws.{AreInTime, source_of-source, line_of, line-each, caused-timers, caused-productions}
 use Rattle.history_laws.proofs.Caused.{IsCaused, of_standing, caused-handle, caused-fire, caused-sent, caused-there, caused-no_injector}
