@@ -1,10 +1,11 @@
 -- What a node is once an entry that it asked for stands.
-use Rattle.std.proofs.Common.{◌≡◌, ◌∙◌, ◌≤◌, ℕ, true, false, ◌||◌, List, [], ◌∷◌, ◌++◌, length, refl, sym, ap, subst, inl, inr}
+use Rattle.std.proofs.Common.{◌≡◌, ◌∙◌, ◌<◌, ◌+◌, ◌^◌, ℕ, true, false, ◌||◌, List, [], ◌∷◌, ◌++◌, length, refl, sym, ap, subst, inl, inr, arith}
 use Rattle.std.specs.Prelude.{All, IfSome, Option, Some, None}
 use Rattle.std.specs.List.{list_any}
 use Rattle.std.specs.Option.{option_and_then, option_map, option_map_or}
 use Rattle.std.proofs.Math.Path.{fun_ext}
 use Rattle.std.proofs.lemmas.Bool.{cases_eq}
+use Rattle.std.proofs.lemmas.List.{length-append}
 use Rattle.std.proofs.lemmas.List.Elements.{All-append, All-from_recursion}
 use Rattle.std.proofs.lemmas.List.Folds.{list_any-append}
 use Rattle.list_lemmas.proofs.Tests.{or_true}
@@ -25,9 +26,9 @@ use Rattle.run_history.specs.Runs.{run_of}
 use Rattle.history_laws.proofs.IdLaws.{same_id-itself}
 use Rattle.history_laws.proofs.SeenLaws.{found-more}
 use Rattle.book.specs.Books.{LeaseView}
-use Rattle.book.specs.Desking.{HasWritten, IsKnownOf}
-use Rattle.book.specs.Desks.{DeskView, HasMoved}
-use Rattle.book.specs.Proposals.{IsProposable}
+use Rattle.book.specs.Desking.{IsKnownOf}
+use Rattle.book.specs.Desks.{DeskView, HasMoved, IsSound}
+use Rattle.book.specs.Proposals.{IsEntryOf, IsProposable}
 use Rattle.book.specs.declared.answers.Written.{Written}
 use Rattle.book.specs.declared.proposal.Proposal.{Proposal}
 use Rattle.book.specs.declared.proposal.Proposal.TheVariants as proposals
@@ -37,12 +38,12 @@ use Rattle.node.specs.Answers.{AnswersAsked, HasGrown, IsCommitted, made_of}
 use Rattle.node.specs.Asking.{Request, handled_as, proposed, work_asked}
 use Rattle.node.specs.Fits.{Fits, IsHandled, IsPrepared, IsWork}
 use Rattle.outbox.specs.Messages.{IsAddressed, IsOutgoing, IsSentFrom, messages_from}
+use Rattle.outbox.specs.WorkSteps.{HoldsWork}
 use Rattle.node.specs.Workers.{NodeView, Sending, Worker, WorkView, leases_of, sending_in, sending_of, with_outgoing, with_written, worker_at}
 use Rattle.node.specs.declared.outcome.Outcome.TheVariants as outcomes
 use Rattle.outbox.specs.declared.outgoing.Outgoing.TheVariants as outgoing
 use Rattle.node.proofs.FitLaws.{HasMore, more-appended, outbox-more}
 use Rattle.outbox.proofs.SendLaws.{made-late, made-outgoing}
-use Rattle.node.proofs.StateLaws.{few-handled, state-held}
 use Rattle.node.proofs.PurgeLaws.{held-at-on, held-on-at}
 
 -- ---- an entry that stands
@@ -55,20 +56,33 @@ pub record IsAppended (old new : DeskView) (lease : LeaseView) (entry : Entry) (
   pub number : commit ≡ length before
   pub last : IsCurrent lease.interval lease.seq before
 
--- that a record was handled
-pub appended-handled : (old new : DeskView) (lease : LeaseView) (name : RowName) (delivery : Delivery) (effects : EffectsView)
-    (proposal : Proposal) (row : Contents) (answer : Written) → proposal ≡ proposals.Handle delivery effects
-    → HasWritten old new lease name proposal row answer
-    → IsAppended old new lease (entries.Handle lease.seq name delivery.id effects) answer.commit
-appended-handled old new lease name delivery effects proposal row answer is w =
-    let handled : HasWritten old new lease name (proposals.Handle delivery effects) row answer =
-    subst (λ (p : Proposal). HasWritten old new lease name p row answer) is w in record {
-      before = handled.before;
-      moved = handled.moved;
-      appended = handled.written.written.appended ∙ ap (λ (e : Entry). handled.before ++ e ∷ []) handled.written.of_proposal;
-      number = handled.written.written.commit;
-      last = handled.written.written.last;
-    }
+-- so does that of what was proposed, under the lease of the row's interval
+pub appended-written : (shape : Shape) (old new : DeskView) (interval : ℕ) (name : RowName) (proposal : Proposal) (commit : ℕ)
+    (before after : List (Option HeldView)) (h : HoldsWork shape old new interval name proposal commit before after) (entry : Entry)
+    → h.entry.written.entry ≡ entry → IsAppended old new h.held.lease entry commit
+appended-written shape old new interval name proposal commit before after h entry is = record {
+  before = h.entry.before;
+  moved = h.entry.moved;
+  appended = h.entry.written.written.appended ∙ ap (λ (e : Entry). h.entry.before ++ e ∷ []) is;
+  number = sym h.number ∙ h.entry.written.written.commit;
+  last = h.entry.written.written.last;
+}
+
+-- and that of a work, which is that a record was handled
+pub appended-work : (shape : Shape) (old new : DeskView) (interval : ℕ) (proposal : Proposal) (delivery : Delivery) (effects : EffectsView)
+    (commit : ℕ) (before after : List (Option HeldView)) → proposal ≡ proposals.Handle delivery effects
+    → (h : HoldsWork shape old new interval delivery.to proposal commit before after)
+    → IsAppended old new h.held.lease (entries.Handle h.held.lease.seq delivery.to delivery.id effects) commit
+appended-work shape old new interval proposal delivery effects commit before after is h =
+    appended-written shape old new interval delivery.to proposal commit before after h _
+    (subst (λ (p : Proposal). IsEntryOf old.case h.held.lease.seq delivery.to p h.entry.written.entry) is h.entry.written.of_proposal)
+
+-- its number can be kept
+pub small-number : (old new : DeskView) (lease : LeaseView) (entry : Entry) (commit : ℕ) → IsSound new
+    → IsAppended old new lease entry commit → commit < 2 ^ 32
+small-number old new lease entry commit sound a =
+    let long : length new.seen ≡ length a.before + 1 = ap (λ (h : List Entry). length h) a.appended ∙ length-append a.before (entry ∷ []) in
+    omega (arith, sound.limit, sound.few, long, a.number)
 
 -- the desk has seen more
 pub more-by : (old new : DeskView) (lease : LeaseView) (entry : Entry) (commit : ℕ) → IsAppended old new lease entry commit → HasMore old new
@@ -112,8 +126,7 @@ handled-last seen before seq name id effects appended =
 
 -- what a work that was written leaves of a node
 abbrev pub written_by : Shape → List (Option HeldView) → RowName → Delivery → EffectsView → ℕ → NodeView → NodeView
-written_by shape held sender delivery effects commit node = record {
-  number = node.number;
+written_by shape held sender delivery effects commit node = record node {
   held = held;
   prepared = None;
   outbox = (node.outbox ++ outgoing.Ack sender delivery.id ∷ [])
@@ -182,8 +195,7 @@ leases-written shape interval name commit IsEntry before after h = fun_ext (λ i
 pub answers-written : (case : CaseShape) (old new : DeskView) (node : NodeView) (held : List (Option HeldView)) (work : WorkView)
     (delivery : Delivery) (effects : EffectsView) (interval commit : ℕ) → node.prepared ≡ Some work
     → work.proposal ≡ proposals.Handle delivery effects → interval_of case.topology delivery.to ≡ Some interval
-    → HoldsEntry case.topology interval delivery.to commit
-    (λ lease row answer. HasWritten old new lease delivery.to work.proposal row answer) node.held held
+    → HoldsWork case.topology old new interval delivery.to work.proposal commit node.held held
     → IsOutgoing case old (outgoing.Deliver delivery work.sender)
     → AnswersAsked case.topology old new (work_asked case.topology node) (with_written (sending_of node) (worker_at node)) node
     (written_by case.topology held work.sender delivery effects commit node) (outcomes.Committed commit)
@@ -192,8 +204,7 @@ answers-written case old new node held work delivery effects interval commit pre
     let sending : Sending = record { delivery = delivery; sender = work.sender } in
     let asked = handled_as delivery effects h.held in
     let after = written_by shape held work.sender delivery effects commit node in
-    let a : IsAppended old new h.held.lease asked.entry commit = subst (IsAppended old new h.held.lease asked.entry) h.number
-    (appended-handled old new h.held.lease delivery.to delivery effects work.proposal _ h.answer is h.entry) in
+    let a = appended-work shape old new interval work.proposal delivery effects commit node.held held is h in
     let left : worker_at after ≡ with_outgoing (made_of shape asked commit) (with_written (Some sending) (worker_at node)) =
     ap (λ (l : ℕ → Option ℕ). record { leases = l; prepared = None; outbox = after.outbox })
     (leases-written shape interval delivery.to commit _ node.held held h) in
@@ -242,10 +253,3 @@ pub work-known : (case : CaseShape) (desk : DeskView) (all : List (Option HeldVi
 work-known case desk all sender delivery effects proposal is same work = subst (IsKnownOf desk delivery.to) (sym is)
     (subst (λ (k : CaseShape). IfSome desk.told (λ _. found_delivery delivery.id (run_of k.topology desk.seen).made ≡ Some delivery)) (sym same)
     (told-then desk.told (λ _. IsSentFrom case desk.seen sender delivery) _ work.sent.so (λ x sent. sent.made)))
-
--- and has few productions
-pub work-few : (case : CaseShape) (desk : DeskView) (all : List (Option HeldView)) (sender : RowName) (delivery : Delivery)
-    (effects : EffectsView) → AreAllHeld case desk all → IsHandled case desk all sender delivery effects → length effects.productions ≤ 8
-work-few case desk all sender delivery effects fit work =
-    few-handled case delivery.to (row_held case.topology work.held delivery.to) delivery.item effects
-    (state-held case desk all delivery.to work.held fit work.sent.addressed.to work.there) work.handling.does

@@ -1,18 +1,14 @@
 -- What a node leaves when a timer fires.
-use Rattle.std.proofs.Common.{◌≡◌, ◌∙◌, ◌<◌, ◌≤◌, ◌+◌, ◌^◌, ℕ, List, [], ◌∷◌, ◌++◌, length, refl, sym, ap, subst, arith}
+use Rattle.std.proofs.Common.{◌≡◌, ◌∙◌, ◌+◌, ℕ, List, ◌++◌, refl, sym, ap, subst}
 use Rattle.std.specs.Prelude.{All, IfErr, IfOk, IfSome, Option, Some, None, Result, slice_get, unwrap_or}
-use Rattle.std.specs.Option.{option_map}
-use Rattle.std.proofs.lemmas.List.{length-append}
 use Rattle.std.proofs.lemmas.List.Elements.{All-append}
 use Rattle.list_lemmas.proofs.Told.{if-anyway}
 use Rattle.mw_types.specs.Outcomes.{EffectsView}
-use Rattle.mw_types.specs.declared.entry.Entry.{Entry}
 use Rattle.mw_types.specs.declared.entry.Entry.TheVariants as entries
 use Rattle.mw_types.specs.declared.identity.RowName.{RowName}
-use Rattle.mw_types.specs.declared.kind.Kind.{Kind}
 use Rattle.mw_types.specs.declared.timer.Timer.{Timer}
 use Rattle.topology.specs.Shapes.{Shape}
-use Rattle.computations.specs.Handlers.{effects_of, OfTimer}
+use Rattle.computations.specs.Handlers.{OfTimer}
 use Rattle.row_parts.specs.Contents.{Contents, fresh}
 use Rattle.run_history.specs.Cases.{CaseShape, fresh_of}
 use Rattle.run_history.specs.Fences.{interval_of}
@@ -20,26 +16,23 @@ use Rattle.run_history.specs.Legal.{outcome_of}
 use Rattle.run_history.specs.Made.{deliveries_made, late_cause}
 use Rattle.run_history.specs.Runs.{cached, row_in, run_of}
 use Rattle.list_lemmas.proofs.Lists.{some_same}
-use Rattle.book.specs.Books.{LeaseView}
-use Rattle.book.specs.Desking.{HasWritten}
-use Rattle.book.specs.Desks.{DeskView, HasLooked, IsSound}
+use Rattle.book.specs.Desks.{DeskView, HasLooked}
 use Rattle.book.specs.Proposals.{IsProposable}
-use Rattle.book.specs.declared.answers.Written.{Written}
 use Rattle.book.specs.declared.proposal.Proposal.TheVariants as proposals
-use Rattle.book.proofs.ProposalLaws.{timer-suits}
 use Rattle.holdings.specs.Holding.{AreAllHeld, HeldView, held_at, row_held}
 use Rattle.holdings.specs.declared.first_timer.RowTimer.{RowTimer}
-use Rattle.node.specs.Answers.{AnswersFire, AnswersSome, FailsFire, FailsSome, HasGrown, IsLeastKnown, made_of}
+use Rattle.node.specs.Answers.{AnswersFire, AnswersSome, FailsFire, FailsSome, IsLeastKnown, made_of}
 use Rattle.node.specs.Asking.{IsNextTimer, MayAskFire, Request}
-use Rattle.node.specs.FireSteps.{HoldsFire, IsSetAt, IsTimerToFire}
+use Rattle.node.specs.FireSteps.{IsSetAt, IsTimerToFire}
 use Rattle.node.specs.Fits.{Fits, IsWork}
 use Rattle.outbox.specs.Messages.{IsAddressed, IsComputation, IsOutgoing, messages_from}
+use Rattle.outbox.specs.WorkSteps.{HoldsWork}
 use Rattle.node.specs.Workers.{NodeView, WorkView, with_outgoing, worker_at}
 use Rattle.node.specs.Works.{IsStateThere}
 use Rattle.node.specs.declared.outcome.NodeFault.{NodeFault}
 use Rattle.node.specs.declared.outcome.Outcome.{Outcome}
 use Rattle.node.specs.declared.outcome.Outcome.TheVariants as outcomes
-use Rattle.node.proofs.CommitLaws.{IsAppended, committed, grown-by, leases-written, more-by}
+use Rattle.node.proofs.CommitLaws.{IsAppended, appended-written, committed, leases-written, more-by}
 use Rattle.node.proofs.FitLaws.{outbox-more}
 use Rattle.node.proofs.PurgeLaws.{held-at-on, ok-answers}
 use Rattle.node.proofs.LookLaws.{err-fails, fault-later, some-later}
@@ -79,16 +72,6 @@ pub set-held : (shape : Shape) (all : List (Option HeldView)) (interval : ℕ) (
     (set : IsSetAt shape all interval name timer) → row_held shape set.held name ≡ set.row
 set-held shape all interval name timer set = ap (λ (o : Option Contents). unwrap_or o (fresh (fresh_of shape name.part))) set.row_there
 
--- a handler makes few records of a timer
-pub few-fired : (case : CaseShape) (name : RowName) (row : Contents) (timer : Timer) (effects : EffectsView)
-    → IsStateThere case.topology name.part row.state → outcome_of case name row (OfTimer timer) ≡ Some effects
-    → length effects.productions ≤ 8
-few-fired case name row timer effects there does =
-    let kind = there.0 in
-    let same : effects_of kind name.key row.state (OfTimer timer) ≡ effects = some_same _ _
-    (sym (ap (option_map (λ (k : Kind). effects_of k name.key row.state (OfTimer timer))) there.1) ∙ does) in
-    subst (λ (o : EffectsView). length o.productions ≤ 8) same (timer-suits kind name.key row.state timer there.2).1
-
 -- it may be proposed that it fires
 pub fire-proposable : (case : CaseShape) (all : List (Option HeldView)) (interval : ℕ) (name : RowName) (timer : Timer) (mark : ℕ)
     (effects : EffectsView) (set : IsSetAt case.topology all interval name timer) → outcome_of case name set.row (OfTimer timer) ≡ Some effects
@@ -101,53 +84,30 @@ fire-proposable case all interval name timer mark effects set does =
 
 -- ---- a timer that has fired
 
--- that a timer fired
-pub appended-fired : (old new : DeskView) (lease : LeaseView) (name : RowName) (timer : Timer) (mark : ℕ) (effects : EffectsView)
-    (row : Contents) (answer : Written) → HasWritten old new lease name (proposals.Fire timer mark effects) row answer
-    → IsAppended old new lease (entries.Fire lease.seq name timer mark effects) answer.commit
-appended-fired old new lease name timer mark effects row answer w = record {
-  before = w.before;
-  moved = w.moved;
-  appended = w.written.written.appended ∙ ap (λ (e : Entry). w.before ++ e ∷ []) w.written.of_proposal;
-  number = w.written.written.commit;
-  last = w.written.written.last;
-}
-
 -- its entry stands
-pub fired-last : (shape : Shape) (old new : DeskView) (interval : ℕ) (name : RowName) (timer : Timer) (mark : ℕ) (effects : EffectsView)
-    (commit : ℕ) (before after : List (Option HeldView)) (h : HoldsFire shape old new interval name timer mark effects commit before after)
+pub appended-fire : (shape : Shape) (old new : DeskView) (interval : ℕ) (name : RowName) (timer : Timer) (mark : ℕ) (effects : EffectsView)
+    (commit : ℕ) (before after : List (Option HeldView)) (h : HoldsWork shape old new interval name (proposals.Fire timer mark effects) commit before after)
     → IsAppended old new h.held.lease (entries.Fire h.held.lease.seq name timer mark effects) commit
-fired-last shape old new interval name timer mark effects commit before after h =
-    subst (IsAppended old new h.held.lease (entries.Fire h.held.lease.seq name timer mark effects)) h.number
-    (appended-fired old new h.held.lease name timer mark effects _ h.answer h.entry)
-
--- and is the node's own
-pub grown-fired : (shape : Shape) (old new : DeskView) (interval : ℕ) (name : RowName) (timer : Timer) (mark : ℕ) (effects : EffectsView)
-    (commit : ℕ) (before after : List (Option HeldView)) → HoldsFire shape old new interval name timer mark effects commit before after
-    → HasGrown before old new
-grown-fired shape old new interval name timer mark effects commit before after h =
-    grown-by before old new interval h.held (entries.Fire h.held.lease.seq name timer mark effects) commit h.was
-    (fired-last shape old new interval name timer mark effects commit before after h) refl
+appended-fire shape old new interval name timer mark effects commit before after h =
+    appended-written shape old new interval name (proposals.Fire timer mark effects) commit before after h _ h.entry.written.of_proposal
 
 -- what a timer that fired leaves of a node
 abbrev pub fired_by : Shape → List (Option HeldView) → RowName → Timer → EffectsView → ℕ → NodeView → NodeView
-fired_by shape held name timer effects commit node = record {
-  number = node.number;
+fired_by shape held name timer effects commit node = record node {
   held = held;
-  prepared = node.prepared;
   outbox = node.outbox ++ messages_from name (deliveries_made shape name.part effects.productions timer.late commit);
 }
 
 -- it fits
 pub Fits-fired : (case : CaseShape) (old new : DeskView) (node : NodeView) (interval : ℕ) (name : RowName) (timer : Timer) (mark : ℕ)
     (effects : EffectsView) (commit : ℕ) (after : List (Option HeldView))
-    → HoldsFire case.topology old new interval name timer mark effects commit node.held after → AreAllHeld case new after
+    → HoldsWork case.topology old new interval name (proposals.Fire timer mark effects) commit node.held after → AreAllHeld case new after
     → All (IsAddressed case.topology)
     (messages_from name (deliveries_made case.topology name.part effects.productions timer.late commit))
     → node.prepared ≡ None → Fits case old node → Fits case new (fired_by case.topology after name timer effects commit node)
 Fits-fired case old new node interval name timer mark effects commit after h fit addressed free fits =
     let shape = case.topology in
-    let a = fired-last shape old new interval name timer mark effects commit node.held after h in
+    let a = appended-fire shape old new interval name timer mark effects commit node.held after h in
     let entry = entries.Fire h.held.lease.seq name timer mark effects in
     let more = more-by old new h.held.lease entry commit a in
     let made = messages_from name (deliveries_made shape name.part effects.productions timer.late commit) in record {
@@ -190,7 +150,7 @@ may-fire case node mark interval name timer effects set covers next does =
 pub answers-fired : (case : CaseShape) (old new : DeskView) (node : NodeView) (mark interval : ℕ) (name : RowName) (timer : Timer)
     (effects : EffectsView) (commit : ℕ) (after : List (Option HeldView)) (set : IsSetAt case.topology node.held interval name timer)
     → MayAskFire case node name.part mark (firing name timer mark effects set.held)
-    → HoldsFire case.topology old new interval name timer mark effects commit node.held after
+    → HoldsWork case.topology old new interval name (proposals.Fire timer mark effects) commit node.held after
     → AnswersSome case.topology old new (MayAskFire case node name.part mark) node
     (fired_by case.topology after name timer effects commit node)
     (outcomes.Committed commit)
@@ -198,7 +158,7 @@ answers-fired case old new node mark interval name timer effects commit after se
     let shape = case.topology in
     let same : set.held ≡ h.held = some_same set.held h.held (sym set.there ∙ h.was) in
     let asked = firing name timer mark effects h.held in
-    let a = fired-last shape old new interval name timer mark effects commit node.held after h in
+    let a = appended-fire shape old new interval name timer mark effects commit node.held after h in
     let last = fired_by shape after name timer effects commit node in
     let left : worker_at last ≡ with_outgoing (made_of shape asked commit) (worker_at node) =
     ap (λ (l : ℕ → Option ℕ). record { leases = l; prepared = (worker_at node).prepared; outbox = last.outbox })
@@ -247,13 +207,3 @@ fire-fails case old mid new was part mark found result looked known next fails =
       known = known;
       fails = fault-later old mid new (MayAskFire case was part mark) fault looked f;
     }) (subst (λ p. IfErr result (FailsSome mid new (MayAskFire case was p mark))) next.set.of_part fails)
-
--- the number of an entry that stands can be kept
-pub small-number : (old new : DeskView) (lease : LeaseView) (entry : Entry) (commit : ℕ) → IsSound new
-    → IsAppended old new lease entry commit → commit < 2 ^ 32
-small-number old new lease entry commit sound a =
-    let long : length new.seen ≡ length a.before + 1 = ap (λ (h : List Entry). length h) a.appended ∙ length-append a.before (entry ∷ []) in
-    let number = a.number in
-    let limit = sound.few in
-    let small = sound.limit in
-    omega (arith, long, number, limit, small)

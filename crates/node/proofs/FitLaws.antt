@@ -36,9 +36,14 @@ use Rattle.node.specs.Fits.{Fits, IsHandled, IsPrepared, IsWork}
 use Rattle.outbox.specs.Messages.{IsOutgoing, IsSoIn}
 use Rattle.node.specs.Steps.{HasLetGo, HasYielded, answered, is_work_in, work_beside}
 use Rattle.node.specs.Workers.{NodeView, Sending, Worker, WorkView, goes_into, leases_of, sending_in, where_passes, with_lease, worker_at}
+use Rattle.node.specs.declared.node.Node.TheInside.{Inside}
 use Rattle.node.specs.declared.outcome.NodeFault.TheVariants as faults
 use Rattle.outbox.specs.declared.outgoing.Outgoing.{Outgoing}
 use Rattle.outbox.specs.declared.outgoing.Outgoing.TheVariants as outgoing
+
+-- what is seen of a node with these fields
+abbrev pub node_in : {N : Type 0} → Inside N → NodeView
+node_in n = record { number = n.number; held = n.held; prepared = n.prepared; outbox = n.outbox.messages }
 
 -- ---- a desk that has seen more
 
@@ -338,7 +343,7 @@ keeps-same shape all = record { there = λ i held at. (held, at, refl, λ name. 
 -- what a claim leaves of a node
 abbrev pub claimed_by : Shape → ℕ → List (Option HeldView) → NodeView → NodeView
 claimed_by shape interval held node =
-    record { number = node.number; held = held; prepared = work_beside shape interval node.prepared; outbox = node.outbox }
+    record node { held = held; prepared = work_beside shape interval node.prepared }
 
 -- a node that has claimed an interval fits
 pub Fits-claimed : (case : CaseShape) (old new : DeskView) (node : NodeView) (held : List (Option HeldView)) (worker interval seq : ℕ)

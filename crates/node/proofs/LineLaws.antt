@@ -1,5 +1,5 @@
 -- What a node asks for of the next line of an injector, and what it leaves once the line is injected.
-use Rattle.std.proofs.Common.{◌≡◌, ◌∙◌, ◌<◌, ◌≤◌, ◌^◌, ℕ, List, [], ◌∷◌, ◌++◌, refl, sym, ap, subst, arith, inl, inr}
+use Rattle.std.proofs.Common.{◌≡◌, ◌∙◌, ◌<◌, ◌≤◌, ◌^◌, ℕ, List, ◌++◌, refl, sym, ap, subst, arith, inl, inr}
 use Rattle.std.specs.Prelude.{All, IfErr, IfOk, IfSome, Option, Some, None}
 use Rattle.std.specs.Option.{option_and_then, option_map}
 use Rattle.std.proofs.lemmas.Bool.{cases_eq, lt-ltb}
@@ -7,7 +7,6 @@ use Rattle.std.proofs.lemmas.List.Elements.{All-append}
 use Rattle.list_lemmas.proofs.Told.{if-anyway}
 use Rattle.mw_types.specs.Outcomes.{EffectsView}
 use Rattle.mw_types.specs.declared.delivery.Delivery.{Delivery}
-use Rattle.mw_types.specs.declared.entry.Entry.{Entry}
 use Rattle.mw_types.specs.declared.entry.Entry.TheVariants as entries
 use Rattle.mw_types.specs.declared.identity.RowName.{RowName}
 use Rattle.mw_types.specs.declared.record.Record.{Record}
@@ -30,14 +29,14 @@ use Rattle.holdings.proofs.HeldRows.{row_held-other}
 use Rattle.node.specs.Answers.{AnswersAsked, AnswersWrite, FailsAsked, HasGrown, HasKept, made_of}
 use Rattle.node.specs.Asking.{Request, line_asked, next_line}
 use Rattle.node.specs.Fits.{Fits, IsHandled, IsPrepared, IsWork}
-use Rattle.node.specs.LineSteps.{HoldsLine, IsLineNext, injector_row, line_deliveries}
+use Rattle.node.specs.LineSteps.{IsLineNext, injector_row, line_deliveries}
 use Rattle.outbox.specs.Messages.{IsAddressed, IsOutgoing, messages_from}
+use Rattle.outbox.specs.WorkSteps.{HoldsWork}
 use Rattle.node.specs.Steps.{HasYielded, answered}
 use Rattle.node.specs.Workers.{NodeView, WorkView, with_outgoing, worker_at}
 use Rattle.node.specs.declared.outcome.Outcome.TheVariants as outcomes
 use Rattle.outbox.specs.declared.outgoing.Outgoing.TheVariants as outgoing
-use Rattle.node.proofs.CommitLaws.{IsAppended, committed, grown-by, leases-written, more-by}
-use Rattle.node.proofs.FiringLaws.{small-number}
+use Rattle.node.proofs.CommitLaws.{IsAppended, appended-written, committed, grown-by, leases-written, more-by, small-number}
 use Rattle.node.proofs.FitLaws.{HasMore, fails-refused, held-interval, outbox-more, outgoing-more}
 use Rattle.node.proofs.PurgeLaws.{ok-answers, held-at-on}
 use Rattle.node.proofs.RefusedLaws.{reason-at, refused-held}
@@ -93,7 +92,7 @@ next-line case node part line interval name is next covers =
 -- a line of an injector's row that is held, as the desk answered it
 abbrev HoldsOwn : Shape → DeskView → DeskView → ℕ → ℕ → ℕ → ℕ → List (Option HeldView) → List (Option HeldView) → Type 0
 HoldsOwn shape old new interval part line commit before after =
-    HoldsLine shape old new interval (injector_row part) line commit before after
+    HoldsWork shape old new interval (injector_row part) (proposals.Inject line) commit before after
 
 -- its entry stands
 pub appended-line : (case : CaseShape) (old new : DeskView) (interval part line : ℕ) (item : Record) (commit : ℕ)
@@ -101,17 +100,10 @@ pub appended-line : (case : CaseShape) (old new : DeskView) (interval part line 
     → (h : HoldsOwn case.topology old new interval part line commit before after)
     → IsAppended old new h.held.lease (entries.Inject h.held.lease.seq part line item) commit
 appended-line case old new interval part line item commit before after of_case is h =
-    let w = h.entry.written in
-    let entry = w.of_proposal in
+    let entry = h.entry.written.of_proposal in
     let found = subst (λ (k : CaseShape). option_map record_of (item_at (source_of k part) line) ≡ Some entry.0) of_case entry.1.0 in
-    let same : entry.0 ≡ item = some_same entry.0 item (sym found ∙ is) in record {
-      before = h.entry.before;
-      moved = h.entry.moved;
-      appended = w.written.appended ∙ ap (λ (e : Entry). h.entry.before ++ e ∷ [])
-          (entry.1.1 ∙ ap (entries.Inject h.held.lease.seq part line) same);
-      number = sym h.number ∙ w.written.commit;
-      last = w.written.last;
-    }
+    appended-written case.topology old new interval (injector_row part) (proposals.Inject line) commit before after h _
+    (entry.1.1 ∙ ap (entries.Inject h.held.lease.seq part line) (some_same entry.0 item (sym found ∙ is)))
 
 -- and is the node's own
 pub grown-line : (case : CaseShape) (old new : DeskView) (interval part line : ℕ) (item : Record) (commit : ℕ)
@@ -179,10 +171,8 @@ works-apart case old new before after interval part line commit (Some work) more
 
 -- what an injected line leaves of a node
 abbrev pub injected_by : Shape → List (Option HeldView) → ℕ → Record → ℕ → NodeView → NodeView
-injected_by shape held part item commit node = record {
-  number = node.number;
+injected_by shape held part item commit node = record node {
   held = held;
-  prepared = node.prepared;
   outbox = node.outbox ++ messages_from (injector_row part) (line_deliveries shape part item commit);
 }
 

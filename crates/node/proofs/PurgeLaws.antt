@@ -85,7 +85,7 @@ may-purge case desk all interval held name least floor fit same at covers forget
 
 -- a node that holds this, and has prepared nothing
 abbrev pub holding : List (Option HeldView) → NodeView → NodeView
-holding held node = record { number = node.number; held = held; prepared = node.prepared; outbox = node.outbox }
+holding held node = record node { held = held }
 
 -- it fits
 pub Fits-holding : (case : CaseShape) (old new : DeskView) (node : NodeView) (held : List (Option HeldView)) → HasMore old new

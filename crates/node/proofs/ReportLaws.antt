@@ -1,5 +1,5 @@
 -- What a report answers, and what it leaves of a node.
-use Rattle.std.proofs.Common.{◌≡◌, ℕ, List, refl, sym, ap, subst}
+use Rattle.std.proofs.Common.{◌≡◌, ℕ, refl, sym, ap, subst}
 use Rattle.std.specs.Prelude.{IfErr, IfOk, IfSome, IsSome, Option, Some, None}
 use Rattle.run_history.specs.Cases.{CaseShape}
 use Rattle.book.specs.DeskReasons.{HasReason}
@@ -10,16 +10,11 @@ use Rattle.holdings.specs.Holding.{HeldView, held_at}
 use Rattle.node.specs.Answers.{AnswersReport, AnswersReportOf, FailsReport}
 use Rattle.node.specs.Fits.{Fits}
 use Rattle.node.specs.Steps.{HasYielded, answered}
-use Rattle.node.specs.Workers.{NodeView, WorkView, worker_at}
+use Rattle.node.specs.Workers.{NodeView, worker_at}
 use Rattle.outbox.specs.Reports.{IsReportOf, IsUnreported}
-use Rattle.outbox.specs.declared.outgoing.Outgoing.{Outgoing}
 use Rattle.node.specs.declared.outcome.NodeFault.TheVariants as faults
 use Rattle.node.specs.declared.outcome.Outcome.TheVariants as outcomes
 use Rattle.node.proofs.FitLaws.{fails-refused, looked_not, worker-let_go}
-
--- a node that holds this, by its parts
-abbrev pub with_held : List (Option HeldView) → ℕ → Option WorkView → List Outgoing → NodeView
-with_held held number prepared outbox = record { number = number; held = held; prepared = prepared; outbox = outbox }
 
 -- the own work was reported, of what is held
 pub marked : (case : CaseShape) (old new : DeskView) (was : NodeView) (interval mark : ℕ) (here : Option HeldView)

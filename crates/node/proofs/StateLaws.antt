@@ -1,23 +1,18 @@
 -- The states of rows that are held, and what handlers make of them.
-use Rattle.std.proofs.Common.{◌≡◌, ◌∙◌, ◌≤◌, ◌&&◌, ℕ, Bool, true, false, List, length, refl, sym, ap, subst}
+use Rattle.std.proofs.Common.{◌≡◌, ◌∙◌, ◌&&◌, ℕ, Bool, true, false, List, length, refl, sym, ap}
 use Rattle.std.specs.Prelude.{Option, Some, None, if◌then◌else◌, ◌==◌}
 use Rattle.std.specs.List.{list_all}
-use Rattle.std.specs.Option.{option_map, option_map_or}
+use Rattle.std.specs.Option.{option_map_or}
 use Rattle.std.proofs.lemmas.Bool.{le-ltb}
 use Rattle.list_lemmas.proofs.Tests.{both_true}
-use Rattle.mw_types.specs.Outcomes.{EffectsView}
 use Rattle.mw_types.specs.declared.identity.RowName.{RowName}
 use Rattle.mw_types.specs.declared.kind.Kind.{Kind}
-use Rattle.mw_types.specs.declared.record.Record.{Record}
 use Rattle.topology.specs.Shapes.{injectors_of, kind_of}
-use Rattle.computations.specs.Handlers.{effects_of, has_kind, OfRecord}
+use Rattle.computations.specs.Handlers.{has_kind}
 use Rattle.row_parts.specs.Contents.{Contents}
 use Rattle.run_history.specs.Cases.{CaseShape, is_injector, source_of}
 use Rattle.run_history.specs.Fits.{is_cursor_within, is_sent_before, suits_part}
-use Rattle.run_history.specs.Legal.{outcome_of}
-use Rattle.list_lemmas.proofs.Lists.{some_same}
 use Rattle.book.specs.Desks.{DeskView}
-use Rattle.book.proofs.ProposalLaws.{record-suits}
 use Rattle.holdings.specs.Holding.{AreAllHeld, HeldView, held_on, row_held}
 use Rattle.outbox.specs.Messages.{IsComputation}
 use Rattle.node.specs.Works.{IsStateThere}
@@ -49,13 +44,3 @@ state-held case desk all name held fit is there =
     let fitting = here.rows.fit name (on.1 ∙ sym (ap Some here.of_interval)) is.there in
     suits-state case name.part row is
     (both_true (suits_part case name.part row) (list_all (is_sent_before shape (length desk.seen)) row.pending) fitting).0
-
--- a handler makes few records of a record
-pub few-handled : (case : CaseShape) (name : RowName) (row : Contents) (item : Record) (effects : EffectsView)
-    → IsStateThere case.topology name.part row.state → outcome_of case name row (OfRecord item) ≡ Some effects
-    → length effects.productions ≤ 8
-few-handled case name row item effects there does =
-    let kind = there.0 in
-    let same : effects_of kind name.key row.state (OfRecord item) ≡ effects = some_same _ _
-    (sym (ap (option_map (λ (k : Kind). effects_of k name.key row.state (OfRecord item))) there.1) ∙ does) in
-    subst (λ (o : EffectsView). length o.productions ≤ 8) same (record-suits kind name.key row.state item there.2).1

@@ -1,10 +1,8 @@
 -- What a node leaves once its desk has taken what it had prepared, or has refused it.
-use Rattle.std.proofs.Common.{◌≡◌, ◌∙◌, ◌<◌, ◌+◌, ◌^◌, ℕ, List, [], ◌∷◌, ◌++◌, length, refl, sym, ap, subst, arith}
+use Rattle.std.proofs.Common.{◌≡◌, ◌<◌, ◌+◌, ◌^◌, ℕ, List, [], ◌∷◌, ◌++◌, refl, sym, subst}
 use Rattle.std.specs.Prelude.{All, IfErr, IfOk, Option, Some, None}
-use Rattle.std.proofs.lemmas.List.{length-append}
 use Rattle.mw_types.specs.Outcomes.{EffectsView}
 use Rattle.mw_types.specs.declared.delivery.Delivery.{Delivery}
-use Rattle.mw_types.specs.declared.entry.Entry.{Entry}
 use Rattle.mw_types.specs.declared.entry.Entry.TheVariants as entries
 use Rattle.mw_types.specs.declared.identity.RowName.{RowName}
 use Rattle.topology.specs.Shapes.{Shape}
@@ -25,7 +23,7 @@ use Rattle.outbox.specs.WorkSteps.{HoldsWork}
 use Rattle.node.specs.Workers.{NodeView, Worker, WorkView}
 use Rattle.outbox.specs.declared.outgoing.Outgoing.{Outgoing}
 use Rattle.outbox.specs.declared.outgoing.Outgoing.TheVariants as outgoing
-use Rattle.node.proofs.CommitLaws.{Fits-written, IsAppended, appended-handled, grown-by, work-asked, work-of, written_by}
+use Rattle.node.proofs.CommitLaws.{Fits-written, appended-work, grown-by, small-number, work-asked, work-of, written_by}
 use Rattle.node.proofs.FitLaws.{answers-refused, fails-refused}
 use Rattle.node.proofs.PurgeLaws.{ok-answers, held-at-on}
 use Rattle.node.proofs.RefusedLaws.{reason-at}
@@ -33,33 +31,17 @@ use Rattle.node.proofs.SettleLaws.{fails-asked}
 
 -- ---- what is to be sent
 
--- the number of an entry that a desk has seen last is small
-number-small : (desk : DeskView) (before : List Entry) (entry : Entry) (commit : ℕ) → IsSound desk → desk.seen ≡ before ++ entry ∷ []
-    → commit ≡ length before → commit < 2 ^ 32
-number-small desk before entry commit sound appended number =
-    let long : length desk.seen ≡ length before + 1 = ap length appended ∙ length-append before (entry ∷ []) in
-    omega (arith, sound.limit, sound.few, long, number)
-
 -- a node of these parts has written its work
 pub node-written : (shape : Shape) (held : List (Option HeldView)) (sender : RowName) (delivery : Delivery) (effects : EffectsView)
     (commit : ℕ) (node : NodeView) (prepared : Option WorkView) (outbox : List Outgoing) → prepared ≡ None
     → outbox ≡ (node.outbox ++ outgoing.Ack sender delivery.id ∷ [])
     ++ messages_from delivery.to (deliveries_made shape delivery.to.part effects.productions delivery.item.late commit)
     → written_by shape held sender delivery effects commit node
-    ≡ record { number = node.number; held = held; prepared = prepared; outbox = outbox }
+    ≡ record node { held = held; prepared = prepared; outbox = outbox }
 node-written shape held sender delivery effects commit node prepared outbox gone is =
-    λ i. record { number = node.number; held = held; prepared = sym gone i; outbox = sym is i }
+    λ i. record node { held = held; prepared = sym gone i; outbox = sym is i }
 
 -- ---- an entry that stands
-
--- it stands under the lease that was held
-pub appended-work : (shape : Shape) (old new : DeskView) (interval : ℕ) (proposal : Proposal) (delivery : Delivery) (effects : EffectsView)
-    (commit : ℕ) (before after : List (Option HeldView)) → proposal ≡ proposals.Handle delivery effects
-    → (h : HoldsWork shape old new interval delivery.to proposal commit before after)
-    → IsAppended old new h.held.lease (entries.Handle h.held.lease.seq delivery.to delivery.id effects) commit
-appended-work shape old new interval proposal delivery effects commit before after is h =
-    subst (IsAppended old new h.held.lease (entries.Handle h.held.lease.seq delivery.to delivery.id effects)) h.number
-    (appended-handled old new h.held.lease delivery.to delivery effects proposal _ h.answer is h.entry)
 
 -- its entry is the node's own
 pub grown-work : (shape : Shape) (old new : DeskView) (interval : ℕ) (proposal : Proposal) (delivery : Delivery) (effects : EffectsView)
@@ -81,7 +63,7 @@ Fits-committed case old new node held work delivery effects interval commit prep
     let a = appended-work case.topology old new interval work.proposal delivery effects commit node.held held is h in
     Fits-written case old new node held work.sender delivery effects h.held.lease commit a fit
     (work-of case old node work delivery effects fits prepared is)
-    (addressed commit (number-small new a.before _ commit sound a.appended a.number)) fits
+    (addressed commit (small-number old new h.held.lease _ commit sound a)) fits
 
 -- ---- a refusal
 

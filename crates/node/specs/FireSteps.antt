@@ -12,13 +12,8 @@ use Rattle.run_history.specs.Cases.{CaseShape}
 use Rattle.computations.specs.Handlers.{OfTimer}
 use Rattle.run_history.specs.Legal.{outcome_of}
 use Rattle.run_history.specs.Runs.{cached, row_in}
-use Rattle.book.specs.Books.{LeaseView}
-use Rattle.book.specs.Desking.{HasWritten}
-use Rattle.book.specs.Desks.{DeskView}
-use Rattle.book.specs.declared.answers.Written.{Written}
-use Rattle.book.specs.declared.proposal.Proposal.TheVariants as proposals
 use Rattle.holdings.specs.Firsts.{HasPicked}
-use Rattle.holdings.specs.Holding.{HeldView, HoldsEntry, held_at}
+use Rattle.holdings.specs.Holding.{HeldView, held_at}
 use Rattle.holdings.specs.Timers.{due_cmp, pair_of, timer_of}
 use Rattle.holdings.specs.declared.first_timer.RowTimer.{RowTimer}
 use Rattle.node.specs.Asking.{IsNextTimer}
@@ -103,10 +98,3 @@ pub record IsSetAt (shape : Shape) (all : List (Option HeldView)) (interval : �
 abbrev pub IsLeftByHandler : CaseShape → List (Option HeldView) → ℕ → RowName → Timer → EffectsView → Type 0
 IsLeftByHandler case all interval name timer effects = (set : IsSetAt case.topology all interval name timer) →
     outcome_of case name set.row (OfTimer timer) ≡ Some effects
-
--- a timer's firing on a row that is held, as the desk answered it
-abbrev pub HoldsFire : Shape → DeskView → DeskView → ℕ → RowName → Timer → ℕ → EffectsView → ℕ →
-    List (Option HeldView) → List (Option HeldView) → Type 0
-HoldsFire shape old new interval name timer mark effects commit before after =
-    HoldsEntry shape interval name commit (λ (lease : LeaseView) (row : Contents) (answer : Written).
-    HasWritten old new lease name (proposals.Fire timer mark effects) row answer) before after

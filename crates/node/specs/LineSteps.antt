@@ -5,15 +5,10 @@ use Rattle.mw_types.specs.declared.identity.RowName.{RowName}
 use Rattle.mw_types.specs.declared.record.Production.{Production}
 use Rattle.mw_types.specs.declared.record.Record.{Record}
 use Rattle.topology.specs.Shapes.{Shape, injectors_of}
-use Rattle.row_parts.specs.Contents.{Contents, cursor_in}
+use Rattle.row_parts.specs.Contents.{cursor_in}
 use Rattle.run_history.specs.Cases.{CaseShape, source_of}
 use Rattle.run_history.specs.Made.{deliveries_made}
-use Rattle.book.specs.Books.{LeaseView}
-use Rattle.book.specs.Desking.{HasWritten}
-use Rattle.book.specs.Desks.{DeskView}
-use Rattle.book.specs.declared.answers.Written.{Written}
-use Rattle.book.specs.declared.proposal.Proposal.TheVariants as proposals
-use Rattle.holdings.specs.Holding.{HeldView, HoldsEntry, held_on, row_held}
+use Rattle.holdings.specs.Holding.{HeldView, held_on, row_held}
 use Rattle.node.specs.Asking.{line_asked}
 use Rattle.node.specs.Workers.{NodeView}
 
@@ -40,13 +35,6 @@ IsNextOf case node part None = line_asked case node part ≡ None
 IsNextOf case node part (Some line) = IsLineNext case node part line
 
 -- ---- a line that is injected
-
--- a line on a row that is held, as the desk answered it
-abbrev pub HoldsLine : Shape → DeskView → DeskView → ℕ → RowName → ℕ → ℕ → List (Option HeldView) →
-    List (Option HeldView) → Type 0
-HoldsLine shape old new interval name line commit before after = HoldsEntry shape interval name commit
-    (λ (lease : LeaseView) (row : Contents) (answer : Written).
-    HasWritten old new lease name (proposals.Inject line) row answer) before after
 
 -- the record of a line, as it is produced
 abbrev pub production_of : Record → Production

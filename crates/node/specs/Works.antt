@@ -1,11 +1,13 @@
 -- What a worker asks of the computations that are handed in: each does what the kind of its part does. Own.
-use Rattle.std.specs.Prelude.{◌≡◌, ℕ, true, List, Option, Some}
+use Rattle.std.specs.Prelude.{◌≡◌, ℕ, true, List, Option, Some, unwrap_or}
 use Rattle.computations.specs.Handlers.{Cause, effects_of, has_kind}
 use Rattle.computations.specs.Laws.{Doings}
 use Rattle.mw_types.specs.declared.identity.RowName.{RowName}
 use Rattle.mw_types.specs.declared.kind.Kind.{Kind}
 use Rattle.mw_types.specs.declared.state.State.{State}
 use Rattle.topology.specs.Shapes.{Shape, kind_of}
+use Rattle.row_parts.specs.Contents.{Contents, fresh}
+use Rattle.run_history.specs.Cases.{fresh_of}
 use Rattle.holdings.specs.Holding.{HeldView, held_on, row_held}
 
 -- each computation has the states of its kind, and leaves of a cause what its kind leaves
@@ -24,3 +26,7 @@ IsStateThere shape part state =
 abbrev pub HasStates : Shape → List (Option HeldView) → RowName → Type 0
 HasStates shape all name = (held : HeldView) → held_on shape all name ≡ Some held →
     IsStateThere shape name.part (row_held shape held name).state
+
+-- the row that is there, or a fresh one of a part
+abbrev pub row_or_fresh : Shape → ℕ → Option Contents → Contents
+row_or_fresh shape part row = unwrap_or row (fresh (fresh_of shape part))

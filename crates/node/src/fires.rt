@@ -4,6 +4,7 @@ ghost use Rattle.std.specs.Ordering.{is_lt};
 ghost use Rattle.run_history.specs.Cases.{intervals_of};
 ghost use Rattle.book.specs.Desking.{IsDueKnown};
 ghost use Rattle.book.specs.Desks.{HasLooked, KeepsMarks};
+ghost use Rattle.book.specs.declared.proposal.Proposal.TheVariants as proposals;
 ghost use Rattle.node.specs.Answers.{AnswersFire, AnswersSome, FailsFire, FailsSome, HasGrown, HasKept};
 ghost use Rattle.node.specs.Fits.{Fits};
 ghost use Rattle.holdings.specs.Holding.{AreAllHeld, IsRefusedOf, KeepsHeld};
@@ -11,9 +12,9 @@ ghost use Rattle.holdings.specs.Timers.{due_cmp, pair_of};
 ghost use Rattle.topology.specs.Shapes.{parts_of};
 ghost use Rattle.run_history.specs.Fences.{interval_of};
 ghost use Rattle.node.specs.Asking.{IsNextTimer, MayAskFire};
-ghost use Rattle.node.specs.FireSteps.{AreAllWithin, IsFirstIn, IsLeftByHandler, HoldsFire, IsLeastTimerBelow, IsSetAt, IsTimerToFire, due_under, earlier_timer, lesser_timer};
+ghost use Rattle.node.specs.FireSteps.{AreAllWithin, IsFirstIn, IsLeftByHandler, IsLeastTimerBelow, IsSetAt, IsTimerToFire, due_under, earlier_timer, lesser_timer};
 ghost use Rattle.outbox.specs.Messages.{IsAddressed, IsComputation};
-ghost use Rattle.outbox.specs.WorkSteps.{handler_sends};
+ghost use Rattle.outbox.specs.WorkSteps.{HoldsWork, handler_sends};
 ghost use Rattle.node.specs.Workers.{NodeView};
 ghost use Rattle.node.specs.Works.{IsWorkOf};
 
@@ -167,9 +168,9 @@ fn write_fire<D: Desk>(
     requires known { IsDueKnown (D.view desk.old) found.now.name.part found.now.timer.time mark }
 
     ensures fits { AreAllHeld case.now (D.view desk.new) held.new }
-    ensures fired { IfOk result (λ commit. HoldsFire case.now.topology
-        (D.view desk.old) (D.view desk.new) interval found.now.name found.now.timer mark effects
-        commit held.old held.new) }
+    ensures fired { IfOk result (λ commit. HoldsWork case.now.topology
+        (D.view desk.old) (D.view desk.new) interval found.now.name
+        (proposals.Fire found.now.timer mark effects) commit held.old held.new) }
     ensures sent { IfOk result (λ commit. outbox.new.messages ≡ outbox.old.messages
         ++ handler_sends case.now.topology found.now.name effects found.now.timer.late commit) }
     ensures unsent { OnErr result (outbox.new.messages ≡ outbox.old.messages) }

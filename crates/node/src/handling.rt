@@ -1,14 +1,14 @@
 //! What a computation leaves of a record or of a timer.
-ghost use Rattle.std.specs.Prelude.{◌≡◌, ◌≤◌, IfOk, Some, slice_get};
+ghost use Rattle.std.specs.Prelude.{◌≡◌, ◌≤◌, IfOk, Some, option_copied, slice_get};
 ghost use Rattle.mw_types.specs.declared.TheConstants.{MAX_STAMP};
 ghost use Rattle.computations.specs.Handlers.{OfRecord, OfTimer};
 ghost use Rattle.run_history.specs.Legal.{outcome_of};
-ghost use Rattle.node.specs.Works.{IsStateThere, IsWorkOf};
+ghost use Rattle.node.specs.Works.{IsStateThere, IsWorkOf, row_or_fresh};
 
 use computations::{Computation, Context};
-use mw_types::{Effects, MAX_STAMP, NoMemory, Record, RowName, Timer};
+use mw_types::{Delivery, Effects, MAX_STAMP, NoMemory, Record, RowName, Timer};
 use row_parts::Row;
-use run_history::Case;
+use run_history::{Case, first_row};
 use std::alloc::Global;
 
 /// What a computation leaves of a record that goes to a row, for a caller that has the row and no
@@ -33,6 +33,35 @@ pub fn handled<C: Computation>(
         Err(want) => {
             drop(context);
             Err(want)
+        }
+    }
+}
+
+/// What a computation leaves of a delivery in its row, or in a new row where none is there yet.
+pub fn left_of_delivery<C: Computation>(
+    alloc: Global,
+    work: &C,
+    case: &Case,
+    row: Option<&Row>,
+    delivery: &Delivery,
+) -> Result<Effects, NoMemory>
+    requires work { IsWorkOf case.now.topology (C.does work.now) }
+    requires there { let to = delivery.now.to in IsStateThere case.now.topology to.part
+        (row_or_fresh case.now.topology to.part (option_copied row)).state }
+    requires stamp { delivery.now.item.stamp ≤ MAX_STAMP }
+    ensures does { let to = delivery.now.to in
+        let row = row_or_fresh case.now.topology to.part (option_copied row.entry) in
+        IfOk result (λ effects.
+        outcome_of case.now to row (OfRecord delivery.now.item) ≡ Some effects) }
+{
+    let name = &delivery.to;
+    match row {
+        Some(row) => handled(alloc, work, case, name, row, &delivery.item),
+        None => {
+            let fresh = first_row(alloc, case, name.part);
+            let left = handled(alloc, work, case, name, &fresh, &delivery.item);
+            drop(fresh);
+            left
         }
     }
 }

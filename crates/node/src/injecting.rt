@@ -7,13 +7,15 @@ ghost use Rattle.run_history.specs.Cases.{source_of};
 ghost use Rattle.run_history.specs.Fences.{interval_of};
 ghost use Rattle.book.specs.Desks.{HasLooked, KeepsMarks};
 ghost use Rattle.book.specs.Proposals.{IsNextLine};
+ghost use Rattle.book.specs.declared.proposal.Proposal.TheVariants as proposals;
 ghost use Rattle.holdings.specs.Holding.{AreAllHeld, IsRefusedOf, KeepsHeld, held_at, row_held};
 ghost use Rattle.node.specs.Answers.{AnswersAsked, FailsAsked, HasGrown, HasKept};
 ghost use Rattle.node.specs.Asking.{line_asked};
 ghost use Rattle.node.specs.Fits.{Fits};
-ghost use Rattle.node.specs.LineSteps.{HoldsLine, IsLineNext, IsNextOf, injector_row, line_deliveries, line_held, production_of};
+ghost use Rattle.node.specs.LineSteps.{IsLineNext, IsNextOf, injector_row, line_deliveries, line_held, production_of};
 ghost use Rattle.outbox.specs.Messages.{IsAddressed, messages_from};
 ghost use Rattle.outbox.specs.Outboxes.{numbered};
+ghost use Rattle.outbox.specs.WorkSteps.{HoldsWork};
 ghost use Rattle.node.specs.Workers.{worker_at};
 
 use crate::node::Node;
@@ -153,8 +155,9 @@ fn write_line<D: Desk>(
         (row_held case.now.topology here name.now) line) }
 
     ensures fits { AreAllHeld case.now (D.view desk.new) held.new }
-    ensures injected { IfOk result (λ commit. HoldsLine case.now.topology
-        (D.view desk.old) (D.view desk.new) interval name.now line commit held.old held.new) }
+    ensures injected { IfOk result (λ commit. HoldsWork case.now.topology
+        (D.view desk.old) (D.view desk.new) interval name.now (proposals.Inject line) commit
+        held.old held.new) }
     ensures sent { IfOk result (λ commit. outbox.new.messages
         ≡ outbox.old.messages ++ map (numbered commit) made.items) }
     ensures unsent { OnErr result (outbox.new.messages ≡ outbox.old.messages) }

@@ -32,7 +32,7 @@ mod yields;
 
 pub use beside::node_fits_beside;
 pub use fires::{effects_of, first_due};
-pub use handling::{fired, handled};
+pub use handling::{fired, handled, left_of_delivery};
 pub use message::{Message, Parcel, Receipt};
 pub use node::Node;
 pub use outcome::{NodeFault, Outcome};

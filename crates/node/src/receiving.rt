@@ -1,10 +1,7 @@
 //! Messages that come to a worker.
-ghost use Rattle.std.specs.Prelude.{◌≡◌, ◌≤◌, ◌++◌, ◌∷◌, [], IfErr, IfOk, OnErr, OnOk, Some};
-ghost use Rattle.mw_types.specs.declared.TheConstants.{MAX_STAMP};
+ghost use Rattle.std.specs.Prelude.{◌≡◌, ◌++◌, ◌∷◌, [], IfErr, IfOk, OnErr, OnOk, Some};
 ghost use Rattle.topology.specs.Shapes.{Shape};
 ghost use Rattle.row_parts.specs.Contents.{is_finished};
-ghost use Rattle.computations.specs.Handlers.{OfRecord};
-ghost use Rattle.run_history.specs.Legal.{outcome_of};
 ghost use Rattle.book.specs.Desks.{DeskView, HasLooked, IsSound, KeepsMarks};
 ghost use Rattle.book.specs.declared.proposal.Proposal.TheVariants as proposals;
 ghost use Rattle.holdings.specs.Holding.{row_held};
@@ -13,10 +10,10 @@ ghost use Rattle.node.specs.Fits.{Fits};
 ghost use Rattle.outbox.specs.Messages.{IsAddressed, IsDeliverable, IsOutgoing, IsVouchedFor};
 ghost use Rattle.node.specs.Received.{IsDeliver, note_of, outgoing_of};
 ghost use Rattle.node.specs.Workers.{worker_at};
-ghost use Rattle.node.specs.Works.{HasStates, IsStateThere, IsWorkOf};
+ghost use Rattle.node.specs.Works.{HasStates, IsWorkOf};
 ghost use Rattle.outbox.specs.declared.outgoing.Outgoing.TheVariants as outgoing;
 
-use crate::handling::handled;
+use crate::handling::left_of_delivery;
 use crate::message::{Message, Parcel};
 use crate::node::Node;
 use crate::outcome::{NodeFault, Outcome};
@@ -24,8 +21,8 @@ use crate::work::Work;
 use book::{Desk, Proposal, Seen};
 use computations::Computation;
 use holdings::Held;
-use mw_types::{Delivery, Effects, MAX_STAMP, NoMemory, RecordId, RowName};
-use run_history::{Case, first_row};
+use mw_types::{Delivery, Effects, NoMemory, RecordId, RowName};
+use run_history::Case;
 use std::alloc::Global;
 
 impl<N: Seen> Node<N> {
@@ -118,7 +115,8 @@ impl<N: Seen> Node<N> {
             self.acknowledge(sender, id)?;
             return Ok(Outcome::Duplicate);
         }
-        match handled_on(alloc, work, case, held, &delivery) {
+        let row = held.row(&delivery.to);
+        match left_of_delivery(alloc, work, case, row, &delivery) {
             Ok(effects) => {
                 keep(&mut self.prepared, delivery, effects, sender);
                 Ok(Outcome::Prepared)
@@ -163,33 +161,5 @@ fn is_finished(held: &Held, delivery: &Delivery) -> bool
     match held.row(&delivery.to) {
         Some(row) => row.is_finished(delivery.id),
         None => false,
-    }
-}
-
-// What a computation leaves of a record on its row as it is held.
-fn handled_on<C: Computation>(
-    alloc: Global,
-    work: &C,
-    case: &Case,
-    held: &Held,
-    delivery: &Delivery,
-) -> Result<Effects, NoMemory>
-    requires work { IsWorkOf case.now.topology (C.does work.now) }
-    requires there { IsStateThere case.now.topology delivery.now.to.part
-        (row_held case.now.topology held.now delivery.now.to).state }
-    requires stamp { delivery.now.item.stamp ≤ MAX_STAMP }
-    ensures does { let row = row_held case.now.topology held.now delivery.now.to in
-        IfOk result (λ effects.
-        outcome_of case.now delivery.now.to row (OfRecord delivery.now.item) ≡ Some effects) }
-{
-    let name = &delivery.to;
-    match held.row(name) {
-        Some(row) => handled(alloc, work, case, name, row, &delivery.item),
-        None => {
-            let row = first_row(alloc, case, name.part);
-            let made = handled(alloc, work, case, name, &row, &delivery.item);
-            drop(row);
-            made
-        }
     }
 }

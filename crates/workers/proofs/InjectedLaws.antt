@@ -14,7 +14,7 @@ use Rattle.mw_types.specs.declared.kind.Kind.{Kind}
 use Rattle.mw_types.specs.declared.record.Record.{Record}
 use Rattle.mw_types.specs.declared.state.State.TheVariants as states
 use Rattle.injector.specs.Sources.{Source, SourceLine, item_at}
-use Rattle.computations.specs.Handlers.{effects_of, fresh_state, OfRecord, OfTimer}
+use Rattle.computations.specs.Handlers.{fresh_state}
 use Rattle.row_parts.specs.Contents.{Contents, cursor_in}
 use Rattle.run_history.specs.Cases.{CaseShape, is_injector, source_of}
 use Rattle.run_history.specs.Fences.{known}
@@ -24,8 +24,8 @@ use Rattle.run_history.specs.Runs.{Run, advanced, changed, empty_run, followed, 
 use Rattle.run_history.specs.Watermarks.{cursor_of}
 use Rattle.run_history.proofs.Known.{known-begins}
 use Rattle.history_laws.proofs.Along.{AreLegal-apart, along_history}
+use Rattle.history_laws.proofs.Caused.{caused-fire, caused-handle, caused-no_injector}
 use Rattle.history_laws.proofs.FeedLaws.{injector-no_kind}
-use Rattle.history_laws.proofs.PendingLaws.{was_some}
 use Rattle.history_laws.proofs.RowSteps.{on_row_or_not, row_of-elsewhere, row_of-here}
 use Rattle.history_laws.proofs.UnfinishedLaws.{legal-within}
 use Rattle.topology.specs.Shapes.{kind_of}
@@ -83,15 +83,11 @@ changed-lines case run (entries.Inject seq other line item) sent part lines is m
     subst (λ p. injected part (entries.Inject seq p line item ∷ []) ≡ 1) (sym same) (injected-line part seq line item) in
     ap advanced before ∙ ap (λ (k : ℕ). states.Injector (lines + k)) (sym one)
 changed-lines case run (entries.Handle seq row id effects) sent part lines is may written before =
-    let kind = was_some (λ (kind : Kind). effects_of kind row.key (row_of case.topology run row).state (OfRecord may.delivery.item))
-    (kind_of case.topology row.part) effects may.does in
-    absurd (injector-no_kind case.topology row.part kind.0
-    (subst (λ (n : RowName). is_injector case.topology n.part ≡ true) (sym (some_same _ _ written)) is) kind.1)
+    let name = row_at part in
+    absurd (caused-no_injector case run _ name _ effects (caused-handle case run seq row id effects name may written) is)
 changed-lines case run (entries.Fire seq row timer mark effects) sent part lines is may written before =
-    let kind = was_some (λ (kind : Kind). effects_of kind row.key (row_of case.topology run row).state (OfTimer timer))
-    (kind_of case.topology row.part) effects may.does in
-    absurd (injector-no_kind case.topology row.part kind.0
-    (subst (λ (n : RowName). is_injector case.topology n.part ≡ true) (sym (some_same _ _ written)) is) kind.1)
+    let name = row_at part in
+    absurd (caused-no_injector case run _ name _ effects (caused-fire case run seq row timer mark effects name may written) is)
 changed-lines case run (entries.Claim worker interval) sent part lines is may written before = before ∙ ap states.Injector (omega arith)
 changed-lines case run (entries.Ack seq row id) sent part lines is may written before = before ∙ ap states.Injector (omega arith)
 changed-lines case run (entries.Purge seq row floor) sent part lines is may written before = before ∙ ap states.Injector (omega arith)

@@ -29,6 +29,7 @@ use Rattle.holdings.proofs.HeldSteps.{AreAllHeld-looked}
 use Rattle.node.specs.Answers.{refusal_of}
 use Rattle.node.specs.Fits.{Fits}
 use Rattle.node.specs.Workers.{with_lease, worker_at}
+use Rattle.node.specs.Works.{row_or_fresh}
 use Rattle.node.specs.declared.outcome.NodeFault.{NodeFault}
 use Rattle.node.proofs.CommitLaws.{leases-written}
 use Rattle.node.proofs.FitLaws.{leases-changed, looked_not}
@@ -276,17 +277,11 @@ interval-current book all interval here at less there =
 abbrev pub cached_at : List (Option HeldView) → ℕ → RowName → Option Contents
 cached_at all interval name = option_and_then (λ (here : HeldView). row_in (cached here.rows) name) (held_at all interval)
 
--- a row that is cached is held
-pub row-here : (shape : Shape) (all : List (Option HeldView)) (name : RowName) (interval : ℕ) (here : HeldView) (row : Contents)
-    → held_at all interval ≡ Some here → cached_at all interval name ≡ Some row → row_held shape here name ≡ row
-row-here shape all name interval here row there is = ap (λ (o : Option Contents). unwrap_or o (fresh (fresh_of shape name.part)))
-    (sym (ap (option_and_then (λ (h : HeldView). row_in (cached h.rows) name)) there) ∙ is)
-
--- and one that is not is fresh
-pub fresh-here : (shape : Shape) (all : List (Option HeldView)) (name : RowName) (interval : ℕ) (here : HeldView)
-    → held_at all interval ≡ Some here → cached_at all interval name ≡ None → row_held shape here name ≡ fresh (fresh_of shape name.part)
-fresh-here shape all name interval here there is = ap (λ (o : Option Contents). unwrap_or o (fresh (fresh_of shape name.part)))
-    (sym (ap (option_and_then (λ (h : HeldView). row_in (cached h.rows) name)) there) ∙ is)
+-- that, or a fresh row, is how the row is held
+pub row-here : (shape : Shape) (all : List (Option HeldView)) (name : RowName) (interval : ℕ) (here : HeldView)
+    → held_at all interval ≡ Some here → row_or_fresh shape name.part (cached_at all interval name) ≡ row_held shape here name
+row-here shape all name interval here there = ap (λ (o : Option HeldView). row_or_fresh shape name.part
+    (option_and_then (λ (h : HeldView). row_in (cached h.rows) name) o)) there
 
 -- what a row has pending, by the row that is cached
 pub sent-cached : (shape : Shape) (all : List (Option HeldView)) (name : RowName) (interval : ℕ) (id : RecordId)

@@ -10,6 +10,7 @@ use Rattle.node.specs.Received.{outgoing_of}
 use Rattle.node.specs.Workers.{NodeView, worker_at}
 use Rattle.node.specs.declared.message.Message.{Message}
 use Rattle.outbox.specs.declared.outgoing.Outgoing.{Outgoing}
+use Rattle.world.specs.declared.scripts.world.World.TheInside.{Inside}
 use Rattle.world.specs.scripts.Worlds.{World}
 
 -- the book, the workers by their numbers, and a place for each message that was sent or copied, by its
@@ -22,6 +23,17 @@ pub record WorldState : Type 0 where
   pub left : List ℕ
   pub relays : List (List RecordId)
   pub routes : RoutesView
+
+-- the state of a world with these fields
+abbrev pub state_in : {K C : Type 0} → Inside K C → WorldState
+state_in w = record {
+  book = w.book;
+  nodes = w.nodes.items;
+  flight = w.flight.items;
+  left = w.left.items;
+  relays = w.relays.items;
+  routes = w.routes;
+}
 
 -- what is in flight under a number without its note, if anything is
 abbrev pub noteless : Option (Message NoNote) → Option Outgoing

@@ -1,10 +1,10 @@
 //! How a record stands that a row has pending.
-ghost use Rattle.std.specs.Prelude.{◌≡◌, ◌≤◌, IfOk, Some};
+ghost use Rattle.std.specs.Prelude.{◌≡◌, ◌≤◌, IfOk, Some, option_copied};
 ghost use Rattle.mw_types.specs.declared.TheConstants.{MAX_STAMP};
 ghost use Rattle.run_history.specs.Fences.{interval_of};
 ghost use Rattle.run_history.specs.Runs.{run_of};
 ghost use Rattle.outbox.specs.Messages.{IsComputation};
-ghost use Rattle.node.specs.Works.{IsStateThere, IsWorkOf};
+ghost use Rattle.node.specs.Works.{IsStateThere, IsWorkOf, row_or_fresh};
 ghost use Rattle.world.specs.drains.Drains.{is_full};
 ghost use Rattle.world.specs.drains.Standings.{IsStandingIn, StandsIn};
 ghost use Rattle.world.specs.drains.Turns.{IsAtWork, worker_of};
@@ -50,7 +50,28 @@ pub(crate) fn standing_of<'a, K: Keeper, C: Computation>(
     requires stamp { delivery.now.item.stamp ≤ MAX_STAMP }
     ensures stands { IfOk result (StandsIn book.now held.now interval delivery.now) }
 {
-    match row_of(held, interval, &delivery.to) {
+    let row = row_of(held, interval, &delivery.to);
+    standing_at(alloc, book, work, row, delivery)
+}
+
+// How a record stands in a row, or in a new one where none is there.
+fn standing_at<'a, K: Keeper, C: Computation>(
+    alloc: Global,
+    book: &Book<'a, K>,
+    work: &C,
+    row: Option<&Row>,
+    delivery: &Delivery,
+) -> Result<Standing, NoMemory>
+    requires work { IsWorkOf book.now.case.topology (C.does work.now) }
+    requires there { let shape = book.now.case.topology in let part = delivery.now.to.part in
+        IsStateThere shape part (row_or_fresh shape part (option_copied row)).state }
+    requires stamp { delivery.now.item.stamp ≤ MAX_STAMP }
+    ensures stands { let shape = book.now.case.topology in
+        let found = row_or_fresh shape delivery.now.to.part (option_copied row.entry) in
+        IfOk result
+        (IsStandingIn book.now.case (run_of shape book.now.history) found delivery.now) }
+{
+    match row {
         Some(row) => standing_in(alloc, book, work, row, delivery),
         None => {
             let row = first_row(alloc, book.case(), delivery.to.part);

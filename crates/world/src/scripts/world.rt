@@ -35,27 +35,13 @@ pub struct World<'a, K: Keeper, C: Computation + Drop> {
 impl<'a, K: Keeper, C: Computation + Drop> Model for World<'a, K, C> {
     ghost use Rattle.node.specs.Works.{IsWorkOf};
     ghost use Rattle.world.specs.scripts.Standing.{IsWorld};
-    ghost use Rattle.world.specs.scripts.WorldStates.{WorldState};
+    ghost use Rattle.world.specs.scripts.WorldStates.{WorldState, state_in};
 
     ghost Value = { WorldState };
 
-    ghost view = { λ w. record {
-      book = w.book;
-      nodes = w.nodes.items;
-      flight = w.flight.items;
-      left = w.left.items;
-      relays = w.relays.items;
-      routes = w.routes;
-    } };
+    ghost view = { state_in };
 
-    ghost invariant = { λ w. IsWorld (record {
-      book = w.book;
-      nodes = w.nodes.items;
-      flight = w.flight.items;
-      left = w.left.items;
-      relays = w.relays.items;
-      routes = w.routes;
-    })
+    ghost invariant = { λ w. IsWorld (state_in w)
         × IsWorkOf w.book.case.topology (C.does w.work) };
 }
 

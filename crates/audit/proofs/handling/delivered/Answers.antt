@@ -1,3 +1,8 @@
+use Rattle.std.proofs.Common.{◌≡◌, rules, subst, sym}
+use Rattle.std.specs.Prelude.{Option, option_copied}
+use Rattle.row_parts.specs.Contents.{Contents}
+use Rattle.run_history.specs.Runs.{cached, row_in}
+use Rattle.node.specs.Works.{IsStateThere, row_or_fresh}
 use Rattle.audit.proofs.FoundLaws.{reader-there, state-there, waits-in_time}
 use Rattle.audit.proofs.handling.delivered.Goals as goal
 
@@ -9,14 +14,17 @@ sequencer-requires c = record {
 }
 
 -- and its row has a state of its kind
-pub effects_of-requires-clause-there : goal.effects_of-requires-clause-there
-effects_of-requires-clause-there c =
+pub left_of_delivery-requires-clause-there : goal.left_of_delivery-requires-clause-there
+left_of_delivery-requires-clause-there c =
+    let shape = c.args.case.now.topology in
+    let to = c.args.delivery.now.to in
     let there = reader-there c.args.case.now c.args.history.now c.args.delivery.now.id c.args.delivery.now c.requires.followed
     c.requires.waits in
-    state-there c.args.case.now c.args.history.now c.args.kept.now c.args.delivery.now.to c.requires.followed c.requires.kept
-    there.0 there.1
+    let found : option_copied c.get-found.result ≡ row_in (cached c.args.kept.now.rows.entries) to = search rules in
+    subst (λ (o : Option Contents). IsStateThere shape to.part (row_or_fresh shape to.part o).state) (sym found)
+    (state-there c.args.case.now c.args.history.now c.args.kept.now to c.requires.followed c.requires.kept there.0 there.1)
 
 -- the delivery is in time
-pub effects_of-requires-clause-stamp : goal.effects_of-requires-clause-stamp
-effects_of-requires-clause-stamp c =
+pub left_of_delivery-requires-clause-stamp : goal.left_of_delivery-requires-clause-stamp
+left_of_delivery-requires-clause-stamp c =
     waits-in_time c.args.case.now c.args.history.now c.args.delivery.now.id c.args.delivery.now c.requires.followed c.requires.waits

@@ -1,16 +1,18 @@
 use Rattle.std.proofs.Common.{◌≡◌, ◌∙◌, ◌++◌, ℕ, List, ap, map}
+use Rattle.computations.specs.Handlers.{OfTimer}
+use Rattle.history_laws.proofs.Caused.{IsOutcome-does}
 use Rattle.holdings.proofs.HeldSteps.{ok-so}
 use Rattle.outbox.specs.Outboxes.{numbered}
 use Rattle.outbox.specs.WorkSteps.{handler_sends}
 use Rattle.outbox.specs.declared.outgoing.Outgoing.{Outgoing}
-use Rattle.node.proofs.FiringLaws.{few-fired, fire-proposable}
+use Rattle.node.proofs.FiringLaws.{fire-proposable}
 use Rattle.node.proofs.fires.write_fire.Goals as goal
 
 -- its handler left few productions
 pub made_by-requires-clause-few : goal.made_by-requires-clause-few
 made_by-requires-clause-few g c =
-    few-fired c.args.case.now c.args.found.now.name c.requires.set.row c.args.found.now.timer c.args.effects c.requires.set.state
-    (c.requires.left c.requires.set)
+    (IsOutcome-does c.args.case.now c.args.found.now.name c.requires.set.row (OfTimer c.args.found.now.timer) c.args.effects
+    (c.requires.left c.requires.set)).leaves.productions.few
 
 -- it may be proposed that the timer fires
 pub write_made-written-requires-clause-proposal : goal.write_made-written-requires-clause-proposal

@@ -5,6 +5,7 @@ use Rattle.mw_types.specs.declared.identity.RowName.{RowName}
 use Rattle.mw_types.specs.declared.record.Record.{Record}
 use Rattle.mw_types.specs.declared.delivery.Delivery.{Delivery}
 use Rattle.mw_types.specs.Outcomes.{EffectsView}
+use Rattle.computations.specs.Handlers.{OfRecord}
 use Rattle.run_history.specs.Runs.{row_of}
 use Rattle.run_history.specs.Legal.{outcome_of}
 use Rattle.worked_examples.specs.First.{key_a, window, counts}
@@ -33,8 +34,9 @@ unfolding timer_count
 in_time may =
     let waits : Some left_second ≡ Some may.delivery.item = ap (option_map (λ (d : Delivery). d.item)) may.waits in
     let item : left_second ≡ may.delivery.item = ap (λ (o : Option Record). unwrap_or o left_second) waits in
+    let row = count_row key_a in
     let does : Some counts_late ≡ Some (counts (window 60 2 ∷ []) 60) =
-    ap (outcome_of wide_case (count_row key_a) (row_of wide_case.topology (wide_after 10) (count_row key_a))) item ∙ may.does in
+    ap (λ (i : Record). outcome_of wide_case row (row_of wide_case.topology (wide_after 10) row) (OfRecord i)) item ∙ may.does in
     let counted : 0 ≡ 1 = ap timer_count does in
     absurd (omega (arith, counted))
 

@@ -1,6 +1,8 @@
 use Rattle.std.proofs.Common.{◌≡◌, ◌∙◌, ap, subst, sym, refl}
 use Rattle.std.specs.Prelude.{IfErr, IfOk, IsSome, OnErr, Option, Some, Result}
-use Rattle.holdings.specs.Holding.{HeldView, IsRefusedOf}
+use Rattle.computations.specs.Handlers.{OfRecord}
+use Rattle.history_laws.proofs.Caused.{IsOutcome-does}
+use Rattle.holdings.specs.Holding.{HeldView, IsRefusedOf, row_held}
 use Rattle.node.specs.declared.outcome.NodeFault.{NodeFault}
 use Rattle.node.specs.declared.outcome.Outcome.{Outcome}
 use Rattle.node.specs.declared.outcome.Outcome.TheVariants as outcomes
@@ -8,8 +10,8 @@ use Rattle.node.specs.Answers.{AnswersAsked, FailsAsked, HasGrown, HasKept}
 use Rattle.node.specs.Asking.{work_asked}
 use Rattle.node.specs.Fits.{Fits}
 use Rattle.node.specs.Workers.{NodeView, WorkView, sending_of, with_written, worker_at}
-use Rattle.node.proofs.CommitLaws.{answers-written, work-few, work-known, work-of, work-proposable}
-use Rattle.node.proofs.FitLaws.{Fits-kept, Fits-yielded, keeps-refused, more-looked, worker-kept}
+use Rattle.node.proofs.CommitLaws.{answers-written, work-known, work-of, work-proposable}
+use Rattle.node.proofs.FitLaws.{Fits-kept, Fits-yielded, keeps-refused, more-looked, node_in, worker-kept}
 use Rattle.node.proofs.PurgeLaws.{held-at-on}
 use Rattle.node.proofs.WrittenLaws.{Fits-committed, answers-unwritten, fails-unwritten, grown-work, node-written}
 use Rattle.node.proofs.node.Node.commit.Goals as goal
@@ -20,7 +22,7 @@ write_work-written-requires-clause-part g c =
     let case = c.args.case.now in
     let old = g.D.Desk.view c.args.desk.now in
     let work : WorkView = record { sender = c.in-Some.work.sender; proposal = c.in-Some.work.proposal } in
-    let node : NodeView = record { number = c.self.inside.number; held = c.self.inside.held; prepared = c.self.inside.prepared; outbox = c.self.inside.outbox.messages } in
+    let node : NodeView = node_in c.self.inside in
     let handled = work-of case old node work c.parts-parts.result.0.now c.parts-parts.result.1.now
     (subst (Fits case old) (sym c.self.view_is) c.requires.fits) c.in-Some.is c.parts-parts.ensures in
     handled.sent.addressed.to.there
@@ -30,11 +32,12 @@ write_work-written-requires-clause-few g c =
     let case = c.args.case.now in
     let old = g.D.Desk.view c.args.desk.now in
     let work : WorkView = record { sender = c.in-Some.work.sender; proposal = c.in-Some.work.proposal } in
-    let node : NodeView = record { number = c.self.inside.number; held = c.self.inside.held; prepared = c.self.inside.prepared; outbox = c.self.inside.outbox.messages } in
+    let node : NodeView = node_in c.self.inside in
     let handled = work-of case old node work c.parts-parts.result.0.now c.parts-parts.result.1.now
     (subst (Fits case old) (sym c.self.view_is) c.requires.fits) c.in-Some.is c.parts-parts.ensures in
-    let fits : Fits case old node = subst (Fits case old) (sym c.self.view_is) c.requires.fits in
-    work-few case old node.held work.sender c.parts-parts.result.0.now c.parts-parts.result.1.now fits.held handled
+    let delivery = c.parts-parts.result.0.now in
+    (IsOutcome-does case delivery.to (row_held case.topology handled.held delivery.to) (OfRecord delivery.item)
+    c.parts-parts.result.1.now handled.handling.does).leaves.productions.few
 
 -- the row is held
 pub write_work-written-requires-clause-there : goal.write_work-written-requires-clause-there
@@ -42,7 +45,7 @@ write_work-written-requires-clause-there g c =
     let case = c.args.case.now in
     let old = g.D.Desk.view c.args.desk.now in
     let work : WorkView = record { sender = c.in-Some.work.sender; proposal = c.in-Some.work.proposal } in
-    let node : NodeView = record { number = c.self.inside.number; held = c.self.inside.held; prepared = c.self.inside.prepared; outbox = c.self.inside.outbox.messages } in
+    let node : NodeView = node_in c.self.inside in
     let handled = work-of case old node work c.parts-parts.result.0.now c.parts-parts.result.1.now
     (subst (Fits case old) (sym c.self.view_is) c.requires.fits) c.in-Some.is c.parts-parts.ensures in
     subst (λ (o : Option HeldView). IsSome o) (sym (held-at-on case.topology node.held c.parts-parts.result.0.now.to c.interval_of-interval.result
@@ -54,7 +57,7 @@ write_work-written-requires-clause-proposal g c =
     let case = c.args.case.now in
     let old = g.D.Desk.view c.args.desk.now in
     let work : WorkView = record { sender = c.in-Some.work.sender; proposal = c.in-Some.work.proposal } in
-    let node : NodeView = record { number = c.self.inside.number; held = c.self.inside.held; prepared = c.self.inside.prepared; outbox = c.self.inside.outbox.messages } in
+    let node : NodeView = node_in c.self.inside in
     let handled = work-of case old node work c.parts-parts.result.0.now c.parts-parts.result.1.now
     (subst (Fits case old) (sym c.self.view_is) c.requires.fits) c.in-Some.is c.parts-parts.ensures in
     let parts = ap (λ (w : WorkView). w.proposal) c.work.view_is ∙ c.parts-parts.ensures in
@@ -67,7 +70,7 @@ write_work-written-requires-clause-known g c =
     let case = c.args.case.now in
     let old = g.D.Desk.view c.args.desk.now in
     let work : WorkView = record { sender = c.in-Some.work.sender; proposal = c.in-Some.work.proposal } in
-    let node : NodeView = record { number = c.self.inside.number; held = c.self.inside.held; prepared = c.self.inside.prepared; outbox = c.self.inside.outbox.messages } in
+    let node : NodeView = node_in c.self.inside in
     let handled = work-of case old node work c.parts-parts.result.0.now c.parts-parts.result.1.now
     (subst (Fits case old) (sym c.self.view_is) c.requires.fits) c.in-Some.is c.parts-parts.ensures in
     let parts = ap (λ (w : WorkView). w.proposal) c.work.view_is ∙ c.parts-parts.ensures in
@@ -86,7 +89,7 @@ returns-in-Ok-clause-fits g c =
     let parts = ap (λ (w : WorkView). w.proposal) c.work.view_is ∙ c.parts-parts.ensures in
     let delivery = c.parts-parts.result.0.now in
     let effects = c.parts-parts.result.1.now in
-    let node : NodeView = record { number = c.self.inside.number; held = c.self.inside.held; prepared = c.self.inside.prepared; outbox = c.self.inside.outbox.messages } in
+    let node : NodeView = node_in c.self.inside in
     let fits : Fits case old node = subst (Fits case old) (sym c.self.view_is) c.requires.fits in
     let commit = c.in-Ok.commit in
     subst (Fits case new) (node-written shape c.write_work-written.new.held work.sender delivery effects commit node c.unprepared.new.prepared c.write_work-written.new.outbox.messages
@@ -105,10 +108,14 @@ returns-in-Ok-clause-answers g c =
     let parts = ap (λ (w : WorkView). w.proposal) c.work.view_is ∙ c.parts-parts.ensures in
     let delivery = c.parts-parts.result.0.now in
     let effects = c.parts-parts.result.1.now in
-    let node : NodeView = record { number = c.self.inside.number; held = c.self.inside.held; prepared = c.self.inside.prepared; outbox = c.self.inside.outbox.messages } in
+    let node : NodeView = node_in c.self.inside in
     let fits : Fits case old node = subst (Fits case old) (sym c.self.view_is) c.requires.fits in
     let commit = c.in-Ok.commit in
-    let after : NodeView = record { number = node.number; held = c.write_work-written.new.held; prepared = c.unprepared.new.prepared; outbox = c.write_work-written.new.outbox.messages } in
+    let after : NodeView = record node {
+      held = c.write_work-written.new.held;
+      prepared = c.unprepared.new.prepared;
+      outbox = c.write_work-written.new.outbox.messages;
+    } in
     subst (λ (n : NodeView). AnswersAsked shape old new (work_asked shape n) (with_written (sending_of n) (worker_at n)) n after (outcomes.Committed commit))
     c.self.view_is
     (subst (λ (n : NodeView). AnswersAsked shape old new (work_asked shape node) (with_written (sending_of node) (worker_at node)) node n (outcomes.Committed commit))
@@ -133,9 +140,12 @@ returns-in-Err-clause-fits g c =
     let case = c.args.case.now in
     let old = g.D.Desk.view c.args.desk.now in
     let new = g.D.Desk.view c.write_work-written.new.desk in
-    let node : NodeView = record { number = c.self.inside.number; held = c.self.inside.held; prepared = c.self.inside.prepared; outbox = c.self.inside.outbox.messages } in
+    let node : NodeView = node_in c.self.inside in
     let fits : Fits case old node = subst (Fits case old) (sym c.self.view_is) c.requires.fits in
-    let mid : NodeView = record { number = node.number; held = c.write_work-written.new.held; prepared = node.prepared; outbox = c.write_work-written.new.outbox.messages } in
+    let mid : NodeView = record node {
+      held = c.write_work-written.new.held;
+      outbox = c.write_work-written.new.outbox.messages;
+    } in
     Fits-yielded case new c.interval_of-interval.result c.in-Err.why mid c.yield_to.new.self c.yield_to.ensures.left
     (Fits-kept case old new node mid (more-looked old new c.in-Err.ensures.looked) c.in-Err.ensures.fits c.in-Err.ensures.kept refl
     c.in-Err.ensures.unsent fits)
@@ -150,8 +160,11 @@ returns-in-Err-clause-answers g c =
     let was = c.args.self.now in
     let left = c.yield_to.new.self in
     let work : WorkView = record { sender = c.in-Some.work.sender; proposal = c.in-Some.work.proposal } in
-    let node : NodeView = record { number = c.self.inside.number; held = c.self.inside.held; prepared = c.self.inside.prepared; outbox = c.self.inside.outbox.messages } in
-    let mid : NodeView = record { number = node.number; held = c.write_work-written.new.held; prepared = node.prepared; outbox = c.write_work-written.new.outbox.messages } in
+    let node : NodeView = node_in c.self.inside in
+    let mid : NodeView = record node {
+      held = c.write_work-written.new.held;
+      outbox = c.write_work-written.new.outbox.messages;
+    } in
     let kept : HasKept was mid = worker-kept shape node mid c.in-Err.ensures.kept refl c.in-Err.ensures.unsent ∙ ap worker_at c.self.view_is in
     let prepared : was.prepared ≡ Some work = ap (λ (n : NodeView). n.prepared) (sym c.self.view_is) ∙ c.in-Some.is in
     let reason = subst (λ (n : NodeView). IsRefusedOf old new n.held interval c.in-Err.why) c.self.view_is c.in-Err.ensures.reason in
@@ -163,8 +176,11 @@ returns-in-Err-clause-answers g c =
 pub returns-in-Err-clause-kept : goal.returns-in-Err-clause-kept
 returns-in-Err-clause-kept g c =
     let case = c.args.case.now in
-    let node : NodeView = record { number = c.self.inside.number; held = c.self.inside.held; prepared = c.self.inside.prepared; outbox = c.self.inside.outbox.messages } in
-    let mid : NodeView = record { number = node.number; held = c.write_work-written.new.held; prepared = node.prepared; outbox = c.write_work-written.new.outbox.messages } in
+    let node : NodeView = node_in c.self.inside in
+    let mid : NodeView = record node {
+      held = c.write_work-written.new.held;
+      outbox = c.write_work-written.new.outbox.messages;
+    } in
     let kept : HasKept c.args.self.now mid = worker-kept case.topology node mid c.in-Err.ensures.kept refl c.in-Err.ensures.unsent
     ∙ ap worker_at c.self.view_is in
     subst (λ (r : Result Outcome NodeFault). OnErr r (HasKept c.args.self.now c.yield_to.new.self)) (sym c.yield_to.ensures.answer)

@@ -10,8 +10,9 @@ use Rattle.node.specs.Asking.{IsNextTimer, MayAskFire}
 use Rattle.node.specs.FireSteps.{IsLeftByHandler, IsSetAt}
 use Rattle.node.specs.Fits.{Fits}
 use Rattle.node.specs.Workers.{NodeView, worker_at}
-use Rattle.node.proofs.FiringLaws.{Fits-fired, answers-fired, fired-last, firing, grown-fired, may-fire, set-at, small-number}
-use Rattle.node.proofs.FitLaws.{Fits-kept, Fits-yielded, keeps-refused, more-looked, worker-kept}
+use Rattle.node.proofs.CommitLaws.{grown-by, small-number}
+use Rattle.node.proofs.FiringLaws.{Fits-fired, answers-fired, appended-fire, firing, may-fire, set-at}
+use Rattle.node.proofs.FitLaws.{Fits-kept, Fits-yielded, keeps-refused, more-looked, node_in, worker-kept}
 use Rattle.node.proofs.PurgeLaws.{answers-some, ok-answers}
 use Rattle.node.proofs.RefusedLaws.{fails-at, fails-some, refused-held}
 use Rattle.node.proofs.node.Node.fire_one.Goals as goal
@@ -46,24 +47,15 @@ returns-in-Ok-clause-fits g c =
     let old = g.D.Desk.view c.args.desk.now in
     let new = g.D.Desk.view c.write_fire-written.new.desk in
     let effects = c.in_ok-effects.effects in
-    let node : NodeView = record {
-      number = c.self.inside.number;
-      held = c.self.inside.held;
-      prepared = c.self.inside.prepared;
-      outbox = c.self.inside.outbox.messages;
-    } in
+    let node : NodeView = node_in c.self.inside in
     let fits : Fits case old node = subst (Fits case old) (sym c.self.view_is) c.requires.fits in
     let next = subst (λ (n : NodeView). IsNextTimer case.topology n name.part c.args.mark name timer) (sym c.self.view_is)
     c.requires.next in
-    let last = fired-last case.topology old new interval name timer c.args.mark effects commit node.held c.write_fire-written.new.held
+    let last = appended-fire case.topology old new interval name timer c.args.mark effects commit node.held c.write_fire-written.new.held
     c.in-Ok.ensures.fired in
     let small = small-number old new c.in-Ok.ensures.fired.held.lease _ commit c.sound-2.ensures.sound last in
-    subst (λ (l : List Outgoing). Fits case new (record {
-      number = node.number;
-      held = c.write_fire-written.new.held;
-      prepared = node.prepared;
-      outbox = l;
-    })) (sym c.in-Ok.ensures.sent)
+    subst (λ (l : List Outgoing). Fits case new (record node { held = c.write_fire-written.new.held; outbox = l }))
+    (sym c.in-Ok.ensures.sent)
     (Fits-fired case old new node interval name timer c.args.mark effects commit c.write_fire-written.new.held c.in-Ok.ensures.fired
     c.in-Ok.ensures.fits (c.in-Ok.ensures.addressed commit small) next.free fits)
 
@@ -77,30 +69,19 @@ returns-in-Ok-clause-answers g c =
     let old = g.D.Desk.view c.args.desk.now in
     let new = g.D.Desk.view c.write_fire-written.new.desk in
     let effects = c.in_ok-effects.effects in
-    let node : NodeView = record {
-      number = c.self.inside.number;
-      held = c.self.inside.held;
-      prepared = c.self.inside.prepared;
-      outbox = c.self.inside.outbox.messages;
-    } in
+    let node : NodeView = node_in c.self.inside in
     let fits : Fits case old node = subst (Fits case old) (sym c.self.view_is) c.requires.fits in
     let next = subst (λ (n : NodeView). IsNextTimer case.topology n name.part c.args.mark name timer) (sym c.self.view_is)
     c.requires.next in
     let covers = c.interval_of-interval.ensures.interval in
     let set = set-at case old node name.part c.args.mark interval name timer fits.held c.requires.part covers next in
     let may = may-fire case node c.args.mark interval name timer effects set covers next (c.in_ok-effects.ensures.does set) in
-    subst (λ (n : NodeView). AnswersSome case.topology old new (MayAskFire case n name.part c.args.mark) n (record {
-      number = node.number;
-      held = c.write_fire-written.new.held;
-      prepared = node.prepared;
-      outbox = c.write_fire-written.new.outbox.messages;
-    }) (outcomes.Committed commit)) c.self.view_is
-    (subst (λ (l : List Outgoing). AnswersSome case.topology old new (MayAskFire case node name.part c.args.mark) node (record {
-      number = node.number;
-      held = c.write_fire-written.new.held;
-      prepared = node.prepared;
-      outbox = l;
-    }) (outcomes.Committed commit)) (sym c.in-Ok.ensures.sent)
+    let held = c.write_fire-written.new.held in
+    let left = c.write_fire-written.new.outbox.messages in
+    subst (λ (n : NodeView). AnswersSome case.topology old new (MayAskFire case n name.part c.args.mark) n
+    (record node { held = held; outbox = left }) (outcomes.Committed commit)) c.self.view_is
+    (subst (λ (l : List Outgoing). AnswersSome case.topology old new (MayAskFire case node name.part c.args.mark) node
+    (record node { held = held; outbox = l }) (outcomes.Committed commit)) (sym c.in-Ok.ensures.sent)
     (answers-fired case old new node c.args.mark interval name timer effects commit c.write_fire-written.new.held set may
     c.in-Ok.ensures.fired))
 
@@ -109,8 +90,10 @@ returns-in-Ok-clause-grown g c =
     let old = g.D.Desk.view c.args.desk.now in
     let new = g.D.Desk.view c.write_fire-written.new.desk in
     subst (λ (n : NodeView). HasGrown n.held old new) c.self.view_is
-    (grown-fired c.args.case.now.topology old new c.interval_of-interval.result c.args.found.now.name c.args.found.now.timer c.args.mark
-    c.in_ok-effects.effects c.in-Ok.commit c.self.inside.held c.write_fire-written.new.held c.in-Ok.ensures.fired)
+    (grown-by c.self.inside.held old new c.interval_of-interval.result c.in-Ok.ensures.fired.held _ c.in-Ok.commit
+    c.in-Ok.ensures.fired.was (appended-fire c.args.case.now.topology old new c.interval_of-interval.result c.args.found.now.name
+    c.args.found.now.timer c.args.mark c.in_ok-effects.effects c.in-Ok.commit c.self.inside.held c.write_fire-written.new.held
+    c.in-Ok.ensures.fired) refl)
 
 -- where the desk refused
 pub returns-in-Err-clause-fits : goal.returns-in-Err-clause-fits
@@ -119,17 +102,10 @@ returns-in-Err-clause-fits g c =
     let old = g.D.Desk.view c.args.desk.now in
     let new = g.D.Desk.view c.write_fire-written.new.desk in
     let interval = c.interval_of-interval.result in
-    let node : NodeView = record {
-      number = c.self.inside.number;
-      held = c.self.inside.held;
-      prepared = c.self.inside.prepared;
-      outbox = c.self.inside.outbox.messages;
-    } in
+    let node : NodeView = node_in c.self.inside in
     let fits : Fits case old node = subst (Fits case old) (sym c.self.view_is) c.requires.fits in
-    let mid : NodeView = record {
-      number = node.number;
+    let mid : NodeView = record node {
       held = c.write_fire-written.new.held;
-      prepared = node.prepared;
       outbox = c.write_fire-written.new.outbox.messages;
     } in
     Fits-yielded case new interval c.in-Err.why mid c.yield_to.new.self c.yield_to.ensures.left
@@ -146,16 +122,9 @@ returns-in-Err-clause-answers g c =
     let interval = c.interval_of-interval.result in
     let was = c.args.self.now in
     let after = c.yield_to.new.self in
-    let node : NodeView = record {
-      number = c.self.inside.number;
-      held = c.self.inside.held;
-      prepared = c.self.inside.prepared;
-      outbox = c.self.inside.outbox.messages;
-    } in
-    let mid : NodeView = record {
-      number = node.number;
+    let node : NodeView = node_in c.self.inside in
+    let mid : NodeView = record node {
       held = c.write_fire-written.new.held;
-      prepared = node.prepared;
       outbox = c.write_fire-written.new.outbox.messages;
     } in
     let kept : HasKept was mid = worker-kept case.topology node mid c.in-Err.ensures.kept refl c.in-Err.ensures.unsent
@@ -180,16 +149,9 @@ returns-in-Err-clause-kept g c =
     let case = c.args.case.now in
     let interval = c.interval_of-interval.result in
     let was = c.args.self.now in
-    let node : NodeView = record {
-      number = c.self.inside.number;
-      held = c.self.inside.held;
-      prepared = c.self.inside.prepared;
-      outbox = c.self.inside.outbox.messages;
-    } in
-    let mid : NodeView = record {
-      number = node.number;
+    let node : NodeView = node_in c.self.inside in
+    let mid : NodeView = record node {
       held = c.write_fire-written.new.held;
-      prepared = node.prepared;
       outbox = c.write_fire-written.new.outbox.messages;
     } in
     let kept : HasKept was mid = worker-kept case.topology node mid c.in-Err.ensures.kept refl c.in-Err.ensures.unsent

@@ -6,7 +6,7 @@ use Rattle.node.specs.Fits.{Fits}
 use Rattle.outbox.specs.Messages.{IsAddressed, IsVouchedFor}
 use Rattle.node.specs.Received.{outgoing_of, where_record}
 use Rattle.node.specs.Workers.{NodeView}
-use Rattle.node.proofs.FitLaws.{more-looked, outgoing-more}
+use Rattle.node.proofs.FitLaws.{more-looked, node_in, outgoing-more}
 use Rattle.node.proofs.OutLaws.{Fits-looked, first-again, first-at, so-by-note, vouched-by}
 use Rattle.node.proofs.node.Node.first_again.Goals as goal
 
@@ -15,12 +15,7 @@ pub noted-requires : goal.noted-requires
 noted-requires g c =
     let old = g.D.Desk.view c.args.desk.now in
     let new = g.D.Desk.view c.note-note.new.self in
-    let node : NodeView = record {
-      number = c.self.inside.number;
-      held = c.self.inside.held;
-      prepared = c.self.inside.prepared;
-      outbox = c.self.inside.outbox.messages;
-    } in
+    let node : NodeView = node_in c.self.inside in
     let fits : Fits old.case old node = subst (Fits old.case old) (sym c.self.view_is) c.requires.fits in
     let again : option_and_then where_record (slice_get node.outbox 0) ≡ Some c.in-Some.message = search rules in
     let is = first-at old.case old node c.in-Some.message (first-again node.outbox c.in-Some.message again) fits in
@@ -41,12 +36,7 @@ returns-in-Some-clause-fits g c =
 pub returns-in-Some-clause-addressed : goal.returns-in-Some-clause-addressed
 returns-in-Some-clause-addressed g c =
     let old = g.D.Desk.view c.args.desk.now in
-    let node : NodeView = record {
-      number = c.self.inside.number;
-      held = c.self.inside.held;
-      prepared = c.self.inside.prepared;
-      outbox = c.self.inside.outbox.messages;
-    } in
+    let node : NodeView = node_in c.self.inside in
     let fits : Fits old.case old node = subst (Fits old.case old) (sym c.self.view_is) c.requires.fits in
     let again : option_and_then where_record (slice_get node.outbox 0) ≡ Some c.in-Some.message = search rules in
     let is = first-at old.case old node c.in-Some.message (first-again node.outbox c.in-Some.message again) fits in
@@ -57,12 +47,7 @@ pub returns-in-Some-clause-vouched : goal.returns-in-Some-clause-vouched
 returns-in-Some-clause-vouched g c =
     let old = g.D.Desk.view c.args.desk.now in
     let new = g.D.Desk.view c.note-note.new.self in
-    let node : NodeView = record {
-      number = c.self.inside.number;
-      held = c.self.inside.held;
-      prepared = c.self.inside.prepared;
-      outbox = c.self.inside.outbox.messages;
-    } in
+    let node : NodeView = node_in c.self.inside in
     let fits : Fits old.case old node = subst (Fits old.case old) (sym c.self.view_is) c.requires.fits in
     let again : option_and_then where_record (slice_get node.outbox 0) ≡ Some c.in-Some.message = search rules in
     let is = first-at old.case old node c.in-Some.message (first-again node.outbox c.in-Some.message again) fits in

@@ -10,7 +10,7 @@ use Rattle.node.specs.Fits.{Fits}
 use Rattle.node.specs.PurgeSteps.{CanForget}
 use Rattle.node.specs.Workers.{NodeView, worker_at}
 use Rattle.node.proofs.PurgeLaws.{held-at-on}
-use Rattle.node.proofs.FitLaws.{Fits-kept, Fits-yielded, keeps-refused, more-looked, worker-kept}
+use Rattle.node.proofs.FitLaws.{Fits-kept, Fits-yielded, keeps-refused, more-looked, node_in, worker-kept}
 use Rattle.node.proofs.PurgeLaws.{Fits-purged, forget-floor, grown-purge, holding}
 use Rattle.node.proofs.RefusedLaws.{fails-at, refused-held}
 use Rattle.node.proofs.node.Node.forget.Goals as goal
@@ -32,12 +32,7 @@ returns-in-Ok-clause-fits g c =
     let old = g.D.Desk.view c.args.desk.now in
     let new = g.D.Desk.view c.purge.new.desk in
     let interval = c.interval_of-interval.result in
-    let node : NodeView = record {
-      number = c.self.inside.number;
-      held = c.self.inside.held;
-      prepared = c.self.inside.prepared;
-      outbox = c.self.inside.outbox.messages;
-    } in
+    let node : NodeView = node_in c.self.inside in
     let fits : Fits case old node = subst (Fits case old) (sym c.self.view_is) c.requires.fits in
     let may : CanForget case.topology node 0 c.args.floor c.args.name.now =
     subst (λ (n : NodeView). CanForget case.topology n 0 c.args.floor c.args.name.now) (sym c.self.view_is) c.requires.may in
@@ -59,12 +54,7 @@ returns-in-Err-clause-fits g c =
     let old = g.D.Desk.view c.args.desk.now in
     let new = g.D.Desk.view c.purge.new.desk in
     let interval = c.interval_of-interval.result in
-    let node : NodeView = record {
-      number = c.self.inside.number;
-      held = c.self.inside.held;
-      prepared = c.self.inside.prepared;
-      outbox = c.self.inside.outbox.messages;
-    } in
+    let node : NodeView = node_in c.self.inside in
     let fits : Fits case old node = subst (Fits case old) (sym c.self.view_is) c.requires.fits in
     let mid = holding c.purge.new.self node in
     Fits-yielded case new interval c.in-Err.why mid c.yield_to.new.self c.yield_to.ensures.left
@@ -77,12 +67,7 @@ returns-in-Err-clause-answers g c held there =
     let old = g.D.Desk.view c.args.desk.now in
     let new = g.D.Desk.view c.purge.new.desk in
     let interval = c.interval_of-interval.result in
-    let node : NodeView = record {
-      number = c.self.inside.number;
-      held = c.self.inside.held;
-      prepared = c.self.inside.prepared;
-      outbox = c.self.inside.outbox.messages;
-    } in
+    let node : NodeView = node_in c.self.inside in
     let fits : Fits case old node = subst (Fits case old) (sym c.self.view_is) c.requires.fits in
     let mid = holding c.purge.new.self node in
     let kept : HasKept c.args.self.now mid = worker-kept case.topology node mid c.in-Err.ensures.kept refl refl ∙ ap worker_at
@@ -100,12 +85,7 @@ pub returns-in-Err-clause-kept : goal.returns-in-Err-clause-kept
 returns-in-Err-clause-kept g c =
     let case = c.args.case.now in
     let interval = c.interval_of-interval.result in
-    let node : NodeView = record {
-      number = c.self.inside.number;
-      held = c.self.inside.held;
-      prepared = c.self.inside.prepared;
-      outbox = c.self.inside.outbox.messages;
-    } in
+    let node : NodeView = node_in c.self.inside in
     let mid = holding c.purge.new.self node in
     let kept : HasKept c.args.self.now mid = worker-kept case.topology node mid c.in-Err.ensures.kept refl refl ∙ ap worker_at
     c.self.view_is in

@@ -4,6 +4,7 @@ use Rattle.mw_types.specs.declared.identity.RowName.{RowName}
 use Rattle.topology.specs.Shapes.{Shape}
 use Rattle.run_history.specs.Cases.{CaseShape}
 use Rattle.run_history.specs.Fences.{interval_of}
+use Rattle.book.specs.declared.proposal.Proposal.TheVariants as proposals
 use Rattle.holdings.specs.Holding.{IsRefusedOf}
 use Rattle.node.specs.declared.outcome.NodeFault.{NodeFault}
 use Rattle.node.specs.declared.outcome.Outcome.{Outcome}
@@ -12,10 +13,11 @@ use Rattle.outbox.specs.declared.outgoing.Outgoing.{Outgoing}
 use Rattle.node.specs.Answers.{AnswersAsked, FailsAsked, HasGrown, HasKept}
 use Rattle.node.specs.Asking.{line_asked}
 use Rattle.node.specs.Fits.{Fits}
-use Rattle.node.specs.LineSteps.{HoldsLine, IsLineNext, line_deliveries}
+use Rattle.node.specs.LineSteps.{IsLineNext, line_deliveries}
 use Rattle.outbox.specs.Messages.{IsAddressed, messages_from}
+use Rattle.outbox.specs.WorkSteps.{HoldsWork}
 use Rattle.node.specs.Workers.{NodeView, worker_at}
-use Rattle.node.proofs.FitLaws.{Fits-kept, Fits-yielded, keeps-refused, more-looked, worker-kept}
+use Rattle.node.proofs.FitLaws.{Fits-kept, Fits-yielded, keeps-refused, more-looked, node_in, worker-kept}
 use Rattle.node.proofs.LineLaws.{Fits-injected, answers-injected, answers-uninjected, fails-uninjected, grown-line, next-line}
 use Rattle.node.proofs.node.Node.inject_line.Goals as goal
 
@@ -24,12 +26,7 @@ pub write_line-written-requires-clause-next : goal.write_line-written-requires-c
 write_line-written-requires-clause-next g c =
     let case = c.args.case.now in
     let interval = c.interval_of-interval.result in
-    let node : NodeView = record {
-      number = c.self.inside.number;
-      held = c.self.inside.held;
-      prepared = c.self.inside.prepared;
-      outbox = c.self.inside.outbox.messages;
-    } in
+    let node : NodeView = node_in c.self.inside in
     next-line case node c.args.part c.args.line interval c.args.name.now c.requires.name
     (subst (λ (n : NodeView). IsLineNext case n c.args.part c.args.line) (sym c.self.view_is) c.requires.next)
     c.interval_of-interval.ensures.interval
@@ -46,12 +43,7 @@ returns-in-Ok-clause-fits g c =
     let interval = c.interval_of-interval.result in
     let old = g.D.Desk.view c.args.desk.now in
     let new = g.D.Desk.view c.write_line-written.new.desk in
-    let node : NodeView = record {
-      number = c.self.inside.number;
-      held = c.self.inside.held;
-      prepared = c.self.inside.prepared;
-      outbox = c.self.inside.outbox.messages;
-    } in
+    let node : NodeView = node_in c.self.inside in
     let fits : Fits case old node = subst (Fits case old) (sym c.self.view_is) c.requires.fits in
     let next = subst (λ (n : NodeView). IsLineNext case n part line) (sym c.self.view_is) c.requires.next in
     let named = c.requires.name in
@@ -64,14 +56,9 @@ returns-in-Ok-clause-fits g c =
     (messages_from n (line_deliveries shape n.part item number))) named
     (subst (λ (t : Shape). (number : ℕ) → number < 2 ^ 32 → All (IsAddressed t)
     (messages_from c.args.name.now (line_deliveries t c.args.name.now.part item number))) topology c.in_ok-made.ensures.addressed) in
-    let written = subst (λ (n : RowName). HoldsLine shape old new interval n line commit node.held c.write_line-written.new.held) named
+    let written = subst (λ (n : RowName). HoldsWork shape old new interval n (proposals.Inject line) commit node.held c.write_line-written.new.held) named
     c.in-Ok.ensures.injected in
-    subst (λ (l : List Outgoing). Fits case new (record {
-      number = node.number;
-      held = c.write_line-written.new.held;
-      prepared = node.prepared;
-      outbox = l;
-    })) (sym out)
+    subst (λ (l : List Outgoing). Fits case new (record node { held = c.write_line-written.new.held; outbox = l })) (sym out)
     (Fits-injected case old new node interval part line item commit c.write_line-written.new.held c.in_ok-item.ensures.item
     written c.in-Ok.ensures.fits next.injector c.sound.ensures.sound addressed fits)
 
@@ -86,12 +73,7 @@ returns-in-Ok-clause-answers g c =
     let interval = c.interval_of-interval.result in
     let old = g.D.Desk.view c.args.desk.now in
     let new = g.D.Desk.view c.write_line-written.new.desk in
-    let node : NodeView = record {
-      number = c.self.inside.number;
-      held = c.self.inside.held;
-      prepared = c.self.inside.prepared;
-      outbox = c.self.inside.outbox.messages;
-    } in
+    let node : NodeView = node_in c.self.inside in
     let fits : Fits case old node = subst (Fits case old) (sym c.self.view_is) c.requires.fits in
     let next = subst (λ (n : NodeView). IsLineNext case n part line) (sym c.self.view_is) c.requires.next in
     let named = c.requires.name in
@@ -100,15 +82,10 @@ returns-in-Ok-clause-answers g c =
     ∙ ap (λ (l : List Outgoing). node.outbox ++ l) (c.in_ok-made.ensures.made commit
     ∙ ap (λ (t : Shape). messages_from c.args.name.now (line_deliveries t c.args.name.now.part item commit)) topology
     ∙ ap (λ (n : RowName). messages_from n (line_deliveries shape n.part item commit)) named) in
-    let written = subst (λ (n : RowName). HoldsLine shape old new interval n line commit node.held c.write_line-written.new.held) named
+    let written = subst (λ (n : RowName). HoldsWork shape old new interval n (proposals.Inject line) commit node.held c.write_line-written.new.held) named
     c.in-Ok.ensures.injected in
     let covers = subst (λ (n : RowName). interval_of shape n ≡ Some interval) named c.interval_of-interval.ensures.interval in
-    let left : List Outgoing → NodeView = λ l. record {
-      number = node.number;
-      held = c.write_line-written.new.held;
-      prepared = node.prepared;
-      outbox = l;
-    } in
+    let left : List Outgoing → NodeView = λ l. record node { held = c.write_line-written.new.held; outbox = l } in
     subst (λ (n : NodeView). AnswersAsked shape old new (line_asked case n part) (worker_at n) n (left c.write_line-written.new.outbox.messages)
     (outcomes.Committed commit)) c.self.view_is
     (subst (λ (l : List Outgoing). AnswersAsked shape old new (line_asked case node part) (worker_at node) node (left l)
@@ -120,7 +97,7 @@ pub returns-in-Ok-clause-grown : goal.returns-in-Ok-clause-grown
 returns-in-Ok-clause-grown g c =
     let old = g.D.Desk.view c.args.desk.now in
     let new = g.D.Desk.view c.write_line-written.new.desk in
-    let written = subst (λ (n : RowName). HoldsLine c.args.case.now.topology old new c.interval_of-interval.result n c.args.line
+    let written = subst (λ (n : RowName). HoldsWork c.args.case.now.topology old new c.interval_of-interval.result n (proposals.Inject c.args.line)
     c.in-Ok.commit c.self.inside.held c.write_line-written.new.held) c.requires.name c.in-Ok.ensures.injected in
     subst (λ (n : NodeView). HasGrown n.held old new) c.self.view_is
     (grown-line c.args.case.now old new c.interval_of-interval.result c.args.part c.args.line c.in_ok-item.item c.in-Ok.commit
@@ -132,17 +109,10 @@ returns-in-Err-clause-fits g c =
     let case = c.args.case.now in
     let old = g.D.Desk.view c.args.desk.now in
     let new = g.D.Desk.view c.write_line-written.new.desk in
-    let node : NodeView = record {
-      number = c.self.inside.number;
-      held = c.self.inside.held;
-      prepared = c.self.inside.prepared;
-      outbox = c.self.inside.outbox.messages;
-    } in
+    let node : NodeView = node_in c.self.inside in
     let fits : Fits case old node = subst (Fits case old) (sym c.self.view_is) c.requires.fits in
-    let mid : NodeView = record {
-      number = node.number;
+    let mid : NodeView = record node {
       held = c.write_line-written.new.held;
-      prepared = node.prepared;
       outbox = c.write_line-written.new.outbox.messages;
     } in
     Fits-yielded case new c.interval_of-interval.result c.in-Err.why mid c.yield_to.new.self c.yield_to.ensures.left
@@ -157,16 +127,9 @@ returns-in-Err-clause-answers g c =
     let interval = c.interval_of-interval.result in
     let was = c.args.self.now in
     let after = c.yield_to.new.self in
-    let node : NodeView = record {
-      number = c.self.inside.number;
-      held = c.self.inside.held;
-      prepared = c.self.inside.prepared;
-      outbox = c.self.inside.outbox.messages;
-    } in
-    let mid : NodeView = record {
-      number = node.number;
+    let node : NodeView = node_in c.self.inside in
+    let mid : NodeView = record node {
       held = c.write_line-written.new.held;
-      prepared = node.prepared;
       outbox = c.write_line-written.new.outbox.messages;
     } in
     let kept : HasKept was mid = worker-kept case.topology node mid c.in-Err.ensures.kept refl c.in-Err.ensures.unsent
@@ -183,16 +146,9 @@ pub returns-in-Err-clause-kept : goal.returns-in-Err-clause-kept
 returns-in-Err-clause-kept g c =
     let case = c.args.case.now in
     let was = c.args.self.now in
-    let node : NodeView = record {
-      number = c.self.inside.number;
-      held = c.self.inside.held;
-      prepared = c.self.inside.prepared;
-      outbox = c.self.inside.outbox.messages;
-    } in
-    let mid : NodeView = record {
-      number = node.number;
+    let node : NodeView = node_in c.self.inside in
+    let mid : NodeView = record node {
       held = c.write_line-written.new.held;
-      prepared = node.prepared;
       outbox = c.write_line-written.new.outbox.messages;
     } in
     let kept : HasKept was mid = worker-kept case.topology node mid c.in-Err.ensures.kept refl c.in-Err.ensures.unsent

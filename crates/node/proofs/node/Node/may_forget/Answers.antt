@@ -4,6 +4,7 @@ use Rattle.holdings.specs.Holding.{held_at}
 use Rattle.node.specs.Asking.{forgetting}
 use Rattle.node.specs.PurgeSteps.{CanForget}
 use Rattle.node.specs.Workers.{NodeView}
+use Rattle.node.proofs.FitLaws.{node_in}
 use Rattle.node.proofs.PurgeLaws.{held-on-at}
 use Rattle.node.proofs.node.Node.may_forget.Goals as goal
 
@@ -11,12 +12,7 @@ use Rattle.node.proofs.node.Node.may_forget.Goals as goal
 pub returns-in-Some-clause-may : goal.returns-in-Some-clause-may
 returns-in-Some-clause-may g c is =
     let shape = c.args.case.now.topology in
-    let node : NodeView = record {
-      number = c.self.inside.number;
-      held = c.self.inside.held;
-      prepared = c.self.inside.prepared;
-      outbox = c.self.inside.outbox.messages;
-    } in
+    let node : NodeView = node_in c.self.inside in
     let free : c.self.inside.prepared ≡ None = search rules in
     let at : held_at node.held c.interval_of.result ≡ Some c.in-Some.held.now = search rules in
     subst (λ (n : NodeView). CanForget shape n c.args.least c.args.floor c.args.name.now) c.self.view_is (

@@ -5,7 +5,7 @@ use Rattle.node.specs.Fits.{Fits}
 use Rattle.outbox.specs.Messages.{IsVouchedFor}
 use Rattle.node.specs.Received.{outgoing_of}
 use Rattle.node.specs.Workers.{NodeView}
-use Rattle.node.proofs.FitLaws.{more-looked, outgoing-more}
+use Rattle.node.proofs.FitLaws.{more-looked, node_in, outgoing-more}
 use Rattle.node.proofs.OutLaws.{Fits-less, Fits-looked, first-outgoing, so-by-note, vouched-by}
 use Rattle.node.proofs.node.Node.next_message.Goals as goal
 
@@ -14,12 +14,7 @@ pub noted-requires : goal.noted-requires
 noted-requires g c =
     let old = g.D.Desk.view c.args.desk.now in
     let new = g.D.Desk.view c.note-note.new.self in
-    let node : NodeView = record {
-      number = c.self.inside.number;
-      held = c.self.inside.held;
-      prepared = c.self.inside.prepared;
-      outbox = c.self.inside.outbox.messages;
-    } in
+    let node : NodeView = node_in c.self.inside in
     let fits : Fits old.case old node = subst (Fits old.case old) (sym c.self.view_is) c.requires.fits in
     let is = first-outgoing old.case old node c.in-Some.message c.take_first.new.self.messages c.in-Some.ensures.first fits in
     record {
@@ -33,12 +28,7 @@ pub returns-clause-fits : goal.returns-clause-fits
 returns-clause-fits g c =
     let old = g.D.Desk.view c.args.desk.now in
     let new = g.D.Desk.view c.note-note.new.self in
-    let node : NodeView = record {
-      number = c.self.inside.number;
-      held = c.self.inside.held;
-      prepared = c.self.inside.prepared;
-      outbox = c.self.inside.outbox.messages;
-    } in
+    let node : NodeView = node_in c.self.inside in
     let fits : Fits old.case old node = subst (Fits old.case old) (sym c.self.view_is) c.requires.fits in
     let rest = c.take_first.new.self.messages in
     Fits-looked old.case old new (record node { outbox = rest }) c.sound.ensures.sound c.sound-2.ensures.sound c.note-note.ensures.looked
@@ -49,12 +39,7 @@ pub returns-clause-vouched : goal.returns-clause-vouched
 returns-clause-vouched g c =
     let old = g.D.Desk.view c.args.desk.now in
     let new = g.D.Desk.view c.note-note.new.self in
-    let node : NodeView = record {
-      number = c.self.inside.number;
-      held = c.self.inside.held;
-      prepared = c.self.inside.prepared;
-      outbox = c.self.inside.outbox.messages;
-    } in
+    let node : NodeView = node_in c.self.inside in
     let fits : Fits old.case old node = subst (Fits old.case old) (sym c.self.view_is) c.requires.fits in
     let is = first-outgoing old.case old node c.in-Some.message c.take_first.new.self.messages c.in-Some.ensures.first fits in
     subst (λ (s : Option Sight). IsVouchedFor old.case new s (outgoing_of c.noted.result)) (ap g.N.Seen.sight (sym c.noted.ensures.note))

@@ -11,9 +11,9 @@ use Rattle.node.specs.Answers.{AnswersReport, FailsReport}
 use Rattle.node.specs.Fits.{Fits}
 use Rattle.node.specs.Steps.{HasYielded}
 use Rattle.node.specs.Workers.{NodeView}
-use Rattle.node.proofs.FitLaws.{Fits-yielded}
+use Rattle.node.proofs.FitLaws.{Fits-yielded, node_in}
 use Rattle.node.proofs.OutLaws.{Fits-looked}
-use Rattle.node.proofs.ReportLaws.{marked, memory-alone, reason-held, unreported-at, with_held}
+use Rattle.node.proofs.ReportLaws.{marked, memory-alone, reason-held, unreported-at}
 use Rattle.node.proofs.node.Node.report.Goals as goal
 
 -- once the own work is reported
@@ -23,15 +23,9 @@ returns-in-Ok-clause-fits g c =
     let old = g.D.Desk.view c.args.desk.now in
     let new = g.D.Desk.view c.report_work-reported.new.desk in
     let was = c.args.self.now in
-    let node : NodeView = record {
-      number = c.self.inside.number;
-      held = c.report_work-reported.new.held;
-      prepared = c.self.inside.prepared;
-      outbox = c.self.inside.outbox.messages;
-    } in
-    let same : node ≡ was = ap (λ (h : List (Option HeldView)). with_held h c.self.inside.number c.self.inside.prepared
-    c.self.inside.outbox.messages)
-    c.report_work-reported.ensures.same ∙ c.self.view_is in
+    let holding : List (Option HeldView) → NodeView = λ held. record (node_in c.self.inside) { held = held } in
+    let node = holding c.report_work-reported.new.held in
+    let same : node ≡ was = ap holding c.report_work-reported.ensures.same ∙ c.self.view_is in
     subst (Fits case new) (sym same)
     (Fits-looked case old new was c.sound.ensures.sound c.sound-2.ensures.sound c.report_work-reported.ensures.looked c.requires.fits)
 
@@ -41,15 +35,9 @@ returns-in-Ok-clause-answers g c =
     let old = g.D.Desk.view c.args.desk.now in
     let new = g.D.Desk.view c.report_work-reported.new.desk in
     let was = c.args.self.now in
-    let node : NodeView = record {
-      number = c.self.inside.number;
-      held = c.report_work-reported.new.held;
-      prepared = c.self.inside.prepared;
-      outbox = c.self.inside.outbox.messages;
-    } in
-    let same : node ≡ was = ap (λ (h : List (Option HeldView)). with_held h c.self.inside.number c.self.inside.prepared
-    c.self.inside.outbox.messages)
-    c.report_work-reported.ensures.same ∙ c.self.view_is in
+    let holding : List (Option HeldView) → NodeView = λ held. record (node_in c.self.inside) { held = held } in
+    let node = holding c.report_work-reported.new.held in
+    let same : node ≡ was = ap holding c.report_work-reported.ensures.same ∙ c.self.view_is in
     let held : List (Option HeldView) = c.self.inside.held in
     let here = held_at was.held c.args.interval in
     let at : held_at held c.args.interval ≡ here = ap (λ (n : NodeView). held_at n.held c.args.interval) c.self.view_is in
@@ -68,15 +56,9 @@ returns-in-Err-clause-fits g c =
     let old = g.D.Desk.view c.args.desk.now in
     let new = g.D.Desk.view c.report_work-reported.new.desk in
     let was = c.args.self.now in
-    let node : NodeView = record {
-      number = c.self.inside.number;
-      held = c.report_work-reported.new.held;
-      prepared = c.self.inside.prepared;
-      outbox = c.self.inside.outbox.messages;
-    } in
-    let same : node ≡ was = ap (λ (h : List (Option HeldView)). with_held h c.self.inside.number c.self.inside.prepared
-    c.self.inside.outbox.messages)
-    c.report_work-reported.ensures.same ∙ c.self.view_is in
+    let holding : List (Option HeldView) → NodeView = λ held. record (node_in c.self.inside) { held = held } in
+    let node = holding c.report_work-reported.new.held in
+    let same : node ≡ was = ap holding c.report_work-reported.ensures.same ∙ c.self.view_is in
     Fits-yielded case new c.args.interval c.in-Err.why node c.yield_to.new.self c.yield_to.ensures.left (subst (Fits case new) (sym same)
     (Fits-looked case old new was c.sound.ensures.sound c.sound-2.ensures.sound c.report_work-reported.ensures.looked c.requires.fits))
 
@@ -86,15 +68,9 @@ returns-in-Err-clause-answers g c =
     let old = g.D.Desk.view c.args.desk.now in
     let new = g.D.Desk.view c.report_work-reported.new.desk in
     let was = c.args.self.now in
-    let node : NodeView = record {
-      number = c.self.inside.number;
-      held = c.report_work-reported.new.held;
-      prepared = c.self.inside.prepared;
-      outbox = c.self.inside.outbox.messages;
-    } in
-    let same : node ≡ was = ap (λ (h : List (Option HeldView)). with_held h c.self.inside.number c.self.inside.prepared
-    c.self.inside.outbox.messages)
-    c.report_work-reported.ensures.same ∙ c.self.view_is in
+    let holding : List (Option HeldView) → NodeView = λ held. record (node_in c.self.inside) { held = held } in
+    let node = holding c.report_work-reported.new.held in
+    let same : node ≡ was = ap holding c.report_work-reported.ensures.same ∙ c.self.view_is in
     let held : List (Option HeldView) = c.self.inside.held in
     let here = held_at was.held c.args.interval in
     let at : held_at held c.args.interval ≡ here = ap (λ (n : NodeView). held_at n.held c.args.interval) c.self.view_is in
@@ -112,15 +88,9 @@ returns-in-Err-clause-fault g c =
     let old = g.D.Desk.view c.args.desk.now in
     let new = g.D.Desk.view c.report_work-reported.new.desk in
     let was = c.args.self.now in
-    let node : NodeView = record {
-      number = c.self.inside.number;
-      held = c.report_work-reported.new.held;
-      prepared = c.self.inside.prepared;
-      outbox = c.self.inside.outbox.messages;
-    } in
-    let same : node ≡ was = ap (λ (h : List (Option HeldView)). with_held h c.self.inside.number c.self.inside.prepared
-    c.self.inside.outbox.messages)
-    c.report_work-reported.ensures.same ∙ c.self.view_is in
+    let holding : List (Option HeldView) → NodeView = λ held. record (node_in c.self.inside) { held = held } in
+    let node = holding c.report_work-reported.new.held in
+    let same : node ≡ was = ap holding c.report_work-reported.ensures.same ∙ c.self.view_is in
     let held : List (Option HeldView) = c.self.inside.held in
     let here = held_at was.held c.args.interval in
     let at : held_at held c.args.interval ≡ here = ap (λ (n : NodeView). held_at n.held c.args.interval) c.self.view_is in

@@ -11,7 +11,7 @@ use Rattle.node.specs.Answers.{AnswersAck, FailsAsked, HasGrown, HasKept}
 use Rattle.node.specs.Asking.{settle_asked}
 use Rattle.node.specs.Fits.{Fits}
 use Rattle.node.specs.Workers.{NodeView, worker_at}
-use Rattle.node.proofs.FitLaws.{Fits-kept, Fits-yielded, keeps-refused, more-looked, worker-kept}
+use Rattle.node.proofs.FitLaws.{Fits-kept, Fits-yielded, keeps-refused, more-looked, node_in, worker-kept}
 use Rattle.node.proofs.PurgeLaws.{holding}
 use Rattle.node.proofs.SettleLaws.{Fits-settled, answers-settled, answers-unsettled, fails-unsettled, grown-settled}
 use Rattle.node.proofs.node.Node.settle.Goals as goal
@@ -22,7 +22,7 @@ returns-in-Ok-clause-fits g c =
     let case = c.args.case.now in
     let old = g.D.Desk.view c.args.desk.now in
     let new = g.D.Desk.view c.settle-settled.new.desk in
-    let node : NodeView = record { number = c.self.inside.number; held = c.self.inside.held; prepared = c.self.inside.prepared; outbox = c.self.inside.outbox.messages } in
+    let node : NodeView = node_in c.self.inside in
     let fits : Fits case old node = subst (Fits case old) (sym c.self.view_is) c.requires.fits in
     Fits-settled case old new node c.interval_of-interval.result c.args.to.now c.args.id c.in-Ok.commit c.settle-settled.new.self
     c.in-Ok.ensures.settled c.in-Ok.ensures.fits fits
@@ -44,7 +44,7 @@ returns-in-Ok-clause-answers g c =
     let to = c.args.to.now in
     let id = c.args.id in
     let after = c.settle-settled.new.self in
-    let node : NodeView = record { number = c.self.inside.number; held = c.self.inside.held; prepared = c.self.inside.prepared; outbox = c.self.inside.outbox.messages } in
+    let node : NodeView = node_in c.self.inside in
     let settled = c.in-Ok.ensures.settled in
     let same : c.in-Some.held.now ≡ settled.held = some_same c.in-Some.held.now settled.held (c.in-Some.ensures.held ∙ settled.was) in
     let pending : c.is_pending.result ≡ true = search rules in
@@ -60,7 +60,7 @@ returns-in-Err-clause-fits g c =
     let case = c.args.case.now in
     let old = g.D.Desk.view c.args.desk.now in
     let new = g.D.Desk.view c.settle-settled.new.desk in
-    let node : NodeView = record { number = c.self.inside.number; held = c.self.inside.held; prepared = c.self.inside.prepared; outbox = c.self.inside.outbox.messages } in
+    let node : NodeView = node_in c.self.inside in
     let fits : Fits case old node = subst (Fits case old) (sym c.self.view_is) c.requires.fits in
     let mid = holding c.settle-settled.new.self node in
     Fits-yielded case new c.interval_of-interval.result c.in-Err.why mid c.yield_to.new.self c.yield_to.ensures.left
@@ -74,7 +74,7 @@ returns-in-Err-clause-answers g c =
     let interval = c.interval_of-interval.result in
     let was = c.args.self.now in
     let after = c.yield_to.new.self in
-    let node : NodeView = record { number = c.self.inside.number; held = c.self.inside.held; prepared = c.self.inside.prepared; outbox = c.self.inside.outbox.messages } in
+    let node : NodeView = node_in c.self.inside in
     let mid = holding c.settle-settled.new.self node in
     let kept : HasKept was mid = worker-kept case.topology node mid c.in-Err.ensures.kept refl refl ∙ ap worker_at c.self.view_is in
     let at : held_at was.held interval ≡ Some c.in-Some.held.now =
@@ -90,7 +90,7 @@ returns-in-Err-clause-answers g c =
 pub returns-in-Err-clause-kept : goal.returns-in-Err-clause-kept
 returns-in-Err-clause-kept g c =
     let case = c.args.case.now in
-    let node : NodeView = record { number = c.self.inside.number; held = c.self.inside.held; prepared = c.self.inside.prepared; outbox = c.self.inside.outbox.messages } in
+    let node : NodeView = node_in c.self.inside in
     let mid = holding c.settle-settled.new.self node in
     let kept : HasKept c.args.self.now mid = worker-kept case.topology node mid c.in-Err.ensures.kept refl refl ∙ ap worker_at c.self.view_is in
     subst (λ (r : Result Outcome NodeFault). OnErr r (HasKept c.args.self.now c.yield_to.new.self)) (sym c.yield_to.ensures.answer)

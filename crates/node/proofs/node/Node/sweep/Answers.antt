@@ -5,6 +5,7 @@ use Rattle.node.specs.FireSteps.{AreAllWithin}
 use Rattle.node.specs.Fits.{Fits}
 use Rattle.node.specs.Workers.{NodeView}
 use Rattle.outbox.specs.declared.outgoing.Outgoing.{Outgoing}
+use Rattle.node.proofs.FitLaws.{node_in}
 use Rattle.node.proofs.FirstLaws.{rows-within}
 use Rattle.node.proofs.SweepLaws.{Fits-swept, answers-swept}
 use Rattle.node.proofs.node.Node.sweep.Goals as goal
@@ -23,12 +24,7 @@ returns-clause-fits g c =
     let case = c.args.case.now in
     let desk = g.D.Desk.view c.args.desk.now in
     let again = c.in_ok-again.again.items in
-    let node : NodeView = record {
-      number = c.self.inside.number;
-      held = c.self.inside.held;
-      prepared = c.self.inside.prepared;
-      outbox = c.self.inside.outbox.messages;
-    } in
+    let node : NodeView = node_in c.self.inside in
     let out = c.put_again.ensures.put ∙ ap (λ (l : List Outgoing). l ++ map sent_again again) c.make_room.ensures.same in
     subst (λ (l : List Outgoing). Fits case desk (record node { outbox = l })) (sym out)
     (Fits-swept case desk node again c.in_ok-again.ensures (subst (Fits case desk) (sym c.self.view_is) c.requires.fits))
@@ -37,12 +33,7 @@ pub returns-clause-every : goal.returns-clause-every
 returns-clause-every g c = λ known fits.
     let case = c.args.case.now in
     let again = c.in_ok-again.again.items in
-    let node : NodeView = record {
-      number = c.self.inside.number;
-      held = c.self.inside.held;
-      prepared = c.self.inside.prepared;
-      outbox = c.self.inside.outbox.messages;
-    } in
+    let node : NodeView = node_in c.self.inside in
     let out = c.put_again.ensures.put ∙ ap (λ (l : List Outgoing). l ++ map sent_again again) c.make_room.ensures.same in
     subst (λ (l : List Outgoing). Fits case known (record node { outbox = l })) (sym out)
     (Fits-swept case known node again c.in_ok-again.ensures (subst (Fits case known) (sym c.self.view_is) fits))
@@ -54,12 +45,7 @@ returns-clause-answers g c =
     let desk = g.D.Desk.view c.args.desk.now in
     let again = c.in_ok-again.again.items in
     let count = c.len-count.result in
-    let node : NodeView = record {
-      number = c.self.inside.number;
-      held = c.self.inside.held;
-      prepared = c.self.inside.prepared;
-      outbox = c.self.inside.outbox.messages;
-    } in
+    let node : NodeView = node_in c.self.inside in
     let left : List Outgoing → NodeView = λ l. record node { outbox = l } in
     let out = c.put_again.ensures.put ∙ ap (λ (l : List Outgoing). l ++ map sent_again again) c.make_room.ensures.same in
     let number : count ≡ length again = search rules in

@@ -6,6 +6,7 @@ use Rattle.node.specs.FireSteps.{AreAllWithin}
 use Rattle.node.specs.Fits.{Fits}
 use Rattle.node.specs.Workers.{NodeView}
 use Rattle.outbox.specs.declared.outgoing.Outgoing.{Outgoing}
+use Rattle.node.proofs.FitLaws.{node_in}
 use Rattle.node.proofs.FirstLaws.{rows-within}
 use Rattle.node.proofs.SweepLaws.{Fits-older, answers-older}
 use Rattle.node.proofs.node.Node.sweep_older.Goals as goal
@@ -24,12 +25,7 @@ returns-clause-every g c = λ known fits.
     let case = c.args.case.now in
     let all = c.in_ok-all.all.items in
     let swept = c.self.inside.swept in
-    let node : NodeView = record {
-      number = c.self.inside.number;
-      held = c.self.inside.held;
-      prepared = c.self.inside.prepared;
-      outbox = c.self.inside.outbox.messages;
-    } in
+    let node : NodeView = node_in c.self.inside in
     let out = c.put_again.ensures.put ∙ (λ i. c.make_room.ensures.same i ++ map sent_again (c.older_of-older.ensures i)) in
     subst (λ (l : List Outgoing). Fits case known (record node { outbox = l })) (sym out)
     (Fits-older case known node swept all c.in_ok-all.ensures (subst (Fits case known) (sym c.self.view_is) fits))
@@ -43,12 +39,7 @@ returns-clause-answers g c =
     let all = c.in_ok-all.all.items in
     let swept = c.self.inside.swept in
     let count = c.len-count.result in
-    let node : NodeView = record {
-      number = c.self.inside.number;
-      held = c.self.inside.held;
-      prepared = c.self.inside.prepared;
-      outbox = c.self.inside.outbox.messages;
-    } in
+    let node : NodeView = node_in c.self.inside in
     let left : List Outgoing → NodeView = λ l. record node { outbox = l } in
     let out = c.put_again.ensures.put ∙ (λ i. c.make_room.ensures.same i ++ map sent_again (c.older_of-older.ensures i)) in
     let number : count ≡ length (older_than swept all) = search rules in

@@ -4,6 +4,7 @@ use Rattle.mw_types.specs.declared.identity.RowName.{RowName}
 use Rattle.holdings.specs.Holding.{held_at}
 use Rattle.node.specs.PurgeSteps.{AreRowsWithin, IsToPurge}
 use Rattle.node.specs.Workers.{NodeView}
+use Rattle.node.proofs.FitLaws.{node_in}
 use Rattle.node.proofs.FirstLaws.{next-purge-held}
 use Rattle.node.proofs.node.Node.to_purge.Goals as goal
 
@@ -11,12 +12,7 @@ use Rattle.node.proofs.node.Node.to_purge.Goals as goal
 pub returns-in_ok-copy-in-Some : goal.returns-in_ok-copy-in-Some
 returns-in_ok-copy-in-Some g c =
     let shape = c.args.case.now.topology in
-    let node : NodeView = record {
-      number = c.self.inside.number;
-      held = c.self.inside.held;
-      prepared = c.self.inside.prepared;
-      outbox = c.self.inside.outbox.messages;
-    } in
+    let node : NodeView = node_in c.self.inside in
     let free : node.prepared ≡ None = search rules in
     let there : IsSome (held_at node.held c.args.interval) = search rules in
     let within = subst (λ (n : NodeView). AreRowsWithin shape c.args.interval (held_at n.held c.args.interval)) (sym
@@ -34,12 +30,7 @@ returns-in_ok-copy-in-Some g c =
 pub returns-in-None : goal.returns-in-None
 returns-in-None g c =
     let shape = c.args.case.now.topology in
-    let node : NodeView = record {
-      number = c.self.inside.number;
-      held = c.self.inside.held;
-      prepared = c.self.inside.prepared;
-      outbox = c.self.inside.outbox.messages;
-    } in
+    let node : NodeView = node_in c.self.inside in
     let free : node.prepared ≡ None = search rules in
     let there : IsSome (held_at node.held c.args.interval) = search rules in
     let within = subst (λ (n : NodeView). AreRowsWithin shape c.args.interval (held_at n.held c.args.interval)) (sym

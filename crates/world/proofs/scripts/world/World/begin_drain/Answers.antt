@@ -2,7 +2,7 @@ use Rattle.std.proofs.Common.{◌≡◌, ◌++◌, [], List, ap, arith, drop, le
 use Rattle.std.specs.Prelude.{Some, replicate, slice_get}
 use Rattle.node.specs.Workers.{NodeView}
 use Rattle.world.specs.scripts.Worlds.{world_on}
-use Rattle.world.specs.scripts.WorldStates.{WorldState, world_of}
+use Rattle.world.specs.scripts.WorldStates.{WorldState, state_in, world_of}
 use Rattle.world.proofs.StartedWorlds.{IsIdle, crashed-whole, drained-world, draining-world}
 use Rattle.world.proofs.scripts.world.World.begin_drain.Goals as goal
 
@@ -20,13 +20,11 @@ crash_all-requires-clause-numbered g c =
 pub invariant_of-self : goal.invariant_of-self
 invariant_of-self g c =
     let was = c.self.inside.nodes in
-    let state : WorldState = record {
-      book = c.self.inside.book;
+    let state : WorldState = record (state_in c.self.inside) {
       nodes = take was.len (c.crash_all.new.nodes ++ drop (length c.crash_all.new.nodes) was.items);
       flight = c.clear.new.self.items;
       left = c.clear-2.new.self.items;
       relays = c.forget_all.new.relays.items;
-      routes = c.self.inside.routes;
     } in
     let sixteen = c.self.invariant.0.sixteen in
     let idle : IsIdle state = record {
@@ -42,13 +40,11 @@ invariant_of-self g c =
 pub returns-clause-begun : goal.returns-clause-begun
 returns-clause-begun g c =
     let was = c.self.inside.nodes in
-    let state : WorldState = record {
-      book = c.self.inside.book;
+    let state : WorldState = record (state_in c.self.inside) {
       nodes = take was.len (c.crash_all.new.nodes ++ drop (length c.crash_all.new.nodes) was.items);
       flight = c.clear.new.self.items;
       left = c.clear-2.new.self.items;
       relays = c.forget_all.new.relays.items;
-      routes = c.self.inside.routes;
     } in
     let sixteen = c.self.invariant.0.sixteen in
     let idle : IsIdle state = record {

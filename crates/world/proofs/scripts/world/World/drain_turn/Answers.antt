@@ -3,7 +3,7 @@ use Rattle.topology.specs.Shapes.{parts_of}
 use Rattle.run_history.specs.Cases.{CaseShape}
 use Rattle.world.specs.drains.DrainTurns.{IsUnderWay}
 use Rattle.world.specs.WorldDrains.{HasDrain}
-use Rattle.world.specs.scripts.WorldStates.{WorldState}
+use Rattle.world.specs.scripts.WorldStates.{WorldState, state_in}
 use Rattle.world.proofs.StartedWorlds.{drain-on, drained-world, draining-world, idle-drain, ok-left, turned-case}
 use Rattle.world.proofs.scripts.WorldSteps.{work-moved}
 use Rattle.world.proofs.scripts.world.World.drain_turn.Goals as goal
@@ -16,14 +16,7 @@ drain_turn-requires-clause-under_way g c =
 -- its workers stand in a world over the book that is left
 pub invariant_of-self : goal.invariant_of-self
 invariant_of-self g c =
-    let state : WorldState = record {
-      book = c.self.inside.book;
-      nodes = c.self.inside.nodes.items;
-      flight = c.self.inside.flight.items;
-      left = c.self.inside.left.items;
-      relays = c.self.inside.relays.items;
-      routes = c.self.inside.routes;
-    } in
+    let state : WorldState = state_in c.self.inside in
     let has : HasDrain state c.args.drain.now = subst (λ (s : WorldState). HasDrain s c.args.drain.now) (sym c.self.view_is) c.requires.drain in
     let same : c.drain_turn.new.book.case ≡ state.book.case =
     turned-case c.drain_turn.result c.args.drain.now.from state.book c.drain_turn.new.book c.drain_turn.ensures.drained
@@ -36,14 +29,7 @@ invariant_of-self g c =
 -- the drain of the world is under way
 pub returns-clause-drain : goal.returns-clause-drain
 returns-clause-drain g c =
-    let state : WorldState = record {
-      book = c.self.inside.book;
-      nodes = c.self.inside.nodes.items;
-      flight = c.self.inside.flight.items;
-      left = c.self.inside.left.items;
-      relays = c.self.inside.relays.items;
-      routes = c.self.inside.routes;
-    } in
+    let state : WorldState = state_in c.self.inside in
     let has : HasDrain state c.args.drain.now = subst (λ (s : WorldState). HasDrain s c.args.drain.now) (sym c.self.view_is) c.requires.drain in
     ok-left c.drain_turn.result (λ under. drain-on state c.drain_turn.new.book c.args.drain.now c.drain_turn.new.drain has under)
     c.drain_turn.ensures.under_way
@@ -51,13 +37,6 @@ returns-clause-drain g c =
 -- its workers have nothing
 pub returns-clause-begun : goal.returns-clause-begun
 returns-clause-begun g c =
-    let state : WorldState = record {
-      book = c.self.inside.book;
-      nodes = c.self.inside.nodes.items;
-      flight = c.self.inside.flight.items;
-      left = c.self.inside.left.items;
-      relays = c.self.inside.relays.items;
-      routes = c.self.inside.routes;
-    } in
+    let state : WorldState = state_in c.self.inside in
     let has : HasDrain state c.args.drain.now = subst (λ (s : WorldState). HasDrain s c.args.drain.now) (sym c.self.view_is) c.requires.drain in
     drained-world c.drain_turn.new.book state (idle-drain state c.args.drain.now has)

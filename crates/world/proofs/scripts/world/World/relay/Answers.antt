@@ -3,7 +3,7 @@ use Rattle.std.specs.Prelude.{IfOk}
 use Rattle.list_lemmas.proofs.Told.{if-there}
 use Rattle.plans.specs.declared.step.Step.TheVariants as steps
 use Rattle.world.specs.scripts.Stepping.{HasActed}
-use Rattle.world.specs.scripts.WorldStates.{WorldState, world_of}
+use Rattle.world.specs.scripts.WorldStates.{WorldState, state_in, world_of}
 use Rattle.world.proofs.Results.{ok-then}
 use Rattle.world.proofs.scripts.RelayLaws.{relayed-world}
 use Rattle.world.proofs.scripts.world.World.relay.Goals as goal
@@ -11,14 +11,7 @@ use Rattle.world.proofs.scripts.world.World.relay.Goals as goal
 -- the world stands
 pub invariant_of-self : goal.invariant_of-self
 invariant_of-self g c =
-    let state : WorldState = record {
-      book = c.self.inside.book;
-      nodes = c.self.inside.nodes.items;
-      flight = c.self.inside.flight.items;
-      left = c.self.inside.left.items;
-      relays = c.self.inside.relays.items;
-      routes = c.self.inside.routes;
-    } in (
+    let state : WorldState = state_in c.self.inside in (
       relayed-world state c.args.number c.args.message c.relay.new.flight.items c.relay.new.left.items c.relay.new.relays.items
           c.relay.result c.self.invariant.0 c.relay.ensures.acted c.relay.ensures.flight c.relay.ensures.left c.relay.ensures.relays,
       c.self.invariant.1,
@@ -27,14 +20,7 @@ invariant_of-self g c =
 -- the message comes to the relay as in the script
 pub returns-clause-acted : goal.returns-clause-acted
 returns-clause-acted g c =
-    let state : WorldState = record {
-      book = c.self.inside.book;
-      nodes = c.self.inside.nodes.items;
-      flight = c.self.inside.flight.items;
-      left = c.self.inside.left.items;
-      relays = c.self.inside.relays.items;
-      routes = c.self.inside.routes;
-    } in
+    let state : WorldState = state_in c.self.inside in
     let new : WorldState = record state {
       flight = c.relay.new.flight.items;
       left = c.relay.new.left.items;

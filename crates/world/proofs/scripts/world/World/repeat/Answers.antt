@@ -5,7 +5,7 @@ use Rattle.plans.specs.declared.step.Step.TheVariants as steps
 use Rattle.world.specs.scripts.Relaying.{copied_left}
 use Rattle.world.specs.scripts.Standing.{IsWorld}
 use Rattle.world.specs.scripts.Stepping.{HasActed}
-use Rattle.world.specs.scripts.WorldStates.{WorldState, world_of}
+use Rattle.world.specs.scripts.WorldStates.{WorldState, state_in, world_of}
 use Rattle.world.proofs.Results.{err-then, ok-then}
 use Rattle.world.proofs.scripts.CopyWorlds.{copied-at, copied-stands, copied_world, uncopied-at}
 use Rattle.world.proofs.scripts.FullSteps.{step-not-full}
@@ -15,14 +15,7 @@ use Rattle.world.proofs.scripts.world.World.repeat.Goals as goal
 -- the world stands
 pub invariant_of-self-2 : goal.invariant_of-self-2
 invariant_of-self-2 g c =
-    let state : WorldState = record {
-      book = c.self.inside.book;
-      nodes = c.self.inside.nodes.items;
-      flight = c.self.inside.flight.items;
-      left = c.self.inside.left.items;
-      relays = c.self.inside.relays.items;
-      routes = c.self.inside.routes;
-    } in
+    let state : WorldState = state_in c.self.inside in
     let flight = c.repeat-answer.new.flight.items in
     let left : c.note_copied.new.left.items ≡ copied_left c.args.message (length flight) state.left =
     c.note_copied.ensures ∙ ap (λ l. copied_left c.args.message (length flight) l) c.make_places.ensures.same in (
@@ -35,14 +28,7 @@ invariant_of-self-2 g c =
 -- a message is copied as in the script
 pub returns-clause-acted : goal.returns-clause-acted
 returns-clause-acted g c =
-    let state : WorldState = record {
-      book = c.self.inside.book;
-      nodes = c.self.inside.nodes.items;
-      flight = c.self.inside.flight.items;
-      left = c.self.inside.left.items;
-      relays = c.self.inside.relays.items;
-      routes = c.self.inside.routes;
-    } in
+    let state : WorldState = state_in c.self.inside in
     let flight = c.repeat-answer.new.flight.items in
     let left : c.note_copied.new.left.items ≡ copied_left c.args.message (length flight) state.left =
     c.note_copied.ensures ∙ ap (λ l. copied_left c.args.message (length flight) l) c.make_places.ensures.same in
@@ -57,14 +43,7 @@ returns-clause-acted g c =
 -- want of memory leaves all as it was
 pub returns-clause-same : goal.returns-clause-same
 returns-clause-same g c =
-    let state : WorldState = record {
-      book = c.self.inside.book;
-      nodes = c.self.inside.nodes.items;
-      flight = c.self.inside.flight.items;
-      left = c.self.inside.left.items;
-      relays = c.self.inside.relays.items;
-      routes = c.self.inside.routes;
-    } in
+    let state : WorldState = state_in c.self.inside in
     let flight = c.repeat-answer.new.flight.items in
     let left : c.note_copied.new.left.items ≡ copied_left c.args.message (length flight) state.left =
     c.note_copied.ensures ∙ ap (λ l. copied_left c.args.message (length flight) l) c.make_places.ensures.same in

@@ -8,7 +8,7 @@ use Rattle.world.specs.scripts.Relaying.{sent_left}
 use Rattle.world.specs.scripts.Standing.{IsWorld}
 use Rattle.world.specs.scripts.Stepping.{HasActed}
 use Rattle.world.specs.scripts.WorkerCalls.{HasGoneOn}
-use Rattle.world.specs.scripts.WorldStates.{WorldState, flight_of, noteless, world_of}
+use Rattle.world.specs.scripts.WorldStates.{WorldState, flight_of, noteless, state_in, world_of}
 use Rattle.world.specs.scripts.Worlds.{worker_of}
 use Rattle.world.proofs.Results.{err-then, ok-then}
 use Rattle.world.proofs.scripts.FullSteps.{step-not-full}
@@ -21,27 +21,13 @@ use Rattle.world.proofs.scripts.world.World.send.Goals as goal
 -- the worker fits its book
 pub send-answer-requires-clause-fits : goal.send-answer-requires-clause-fits
 send-answer-requires-clause-fits g c =
-    let state : WorldState = record {
-      book = c.self.inside.book;
-      nodes = c.self.inside.nodes.items;
-      flight = c.self.inside.flight.items;
-      left = c.self.inside.left.items;
-      relays = c.self.inside.relays.items;
-      routes = c.self.inside.routes;
-    } in
+    let state : WorldState = state_in c.self.inside in
     fits-index state c.args.worker c.index_mut-node.result.now c.self.invariant.0 c.requires.worker c.index_mut-node.ensures.value
 
 -- the messages that are noted are in flight
 pub note_sent-requires-clause-behind : goal.note_sent-requires-clause-behind
 note_sent-requires-clause-behind g c =
-    let state : WorldState = record {
-      book = c.self.inside.book;
-      nodes = c.self.inside.nodes.items;
-      flight = c.self.inside.flight.items;
-      left = c.self.inside.left.items;
-      relays = c.self.inside.relays.items;
-      routes = c.self.inside.routes;
-    } in
+    let state : WorldState = state_in c.self.inside in
     let most = sent-most (length c.index_mut-node.result.now.outbox) state.flight c.send-answer.new.flight.items c.send-answer.ensures.sent in
     let same = ap (λ (l : List ℕ). length l) c.make_places.ensures.same in
     let sized = on_way-sized state.routes (flight_of state.flight) state.left c.self.invariant.0.on_way in
@@ -51,14 +37,7 @@ note_sent-requires-clause-behind g c =
 -- there is room for the others
 pub note_sent-requires-clause-room : goal.note_sent-requires-clause-room
 note_sent-requires-clause-room g c =
-    let state : WorldState = record {
-      book = c.self.inside.book;
-      nodes = c.self.inside.nodes.items;
-      flight = c.self.inside.flight.items;
-      left = c.self.inside.left.items;
-      relays = c.self.inside.relays.items;
-      routes = c.self.inside.routes;
-    } in
+    let state : WorldState = state_in c.self.inside in
     let was = c.index_mut-node.result.now in
     let most = sent-most (length was.outbox) state.flight c.send-answer.new.flight.items c.send-answer.ensures.sent in
     let same = ap (λ (l : List ℕ). length l) c.make_places.ensures.same in
@@ -76,28 +55,14 @@ note_sent-requires-clause-room g c =
 -- their producers have routes
 pub note_sent-requires-clause-routed : goal.note_sent-requires-clause-routed
 note_sent-requires-clause-routed g c =
-    let state : WorldState = record {
-      book = c.self.inside.book;
-      nodes = c.self.inside.nodes.items;
-      flight = c.self.inside.flight.items;
-      left = c.self.inside.left.items;
-      relays = c.self.inside.relays.items;
-      routes = c.self.inside.routes;
-    } in
+    let state : WorldState = state_in c.self.inside in
     sent-routed state c.send-answer.new.book c.index_mut-node.result.now c.send-answer.new.node c.send-answer.new.flight.items
     c.self.invariant.0 c.send-answer.ensures.called c.send-answer.ensures.flying
 
 -- the world stands
 pub invariant_of-self-2 : goal.invariant_of-self-2
 invariant_of-self-2 g c =
-    let state : WorldState = record {
-      book = c.self.inside.book;
-      nodes = c.self.inside.nodes.items;
-      flight = c.self.inside.flight.items;
-      left = c.self.inside.left.items;
-      relays = c.self.inside.relays.items;
-      routes = c.self.inside.routes;
-    } in
+    let state : WorldState = state_in c.self.inside in
     let was = c.index_mut-node.result.now in
     let after = c.send-answer.new.flight.items in
     let at = at-index state c.args.worker was c.self.invariant.0 c.requires.worker c.index_mut-node.ensures.value in
@@ -114,14 +79,7 @@ invariant_of-self-2 g c =
 -- all is sent as in the script
 pub returns-clause-acted : goal.returns-clause-acted
 returns-clause-acted g c =
-    let state : WorldState = record {
-      book = c.self.inside.book;
-      nodes = c.self.inside.nodes.items;
-      flight = c.self.inside.flight.items;
-      left = c.self.inside.left.items;
-      relays = c.self.inside.relays.items;
-      routes = c.self.inside.routes;
-    } in
+    let state : WorldState = state_in c.self.inside in
     let was = c.index_mut-node.result.now in
     let after = c.send-answer.new.flight.items in
     let new = sent_world state c.send-answer.new.book c.args.worker c.send-answer.new.node after in
@@ -137,14 +95,7 @@ returns-clause-acted g c =
 -- the world goes on
 pub returns-clause-gone : goal.returns-clause-gone
 returns-clause-gone g c =
-    let state : WorldState = record {
-      book = c.self.inside.book;
-      nodes = c.self.inside.nodes.items;
-      flight = c.self.inside.flight.items;
-      left = c.self.inside.left.items;
-      relays = c.self.inside.relays.items;
-      routes = c.self.inside.routes;
-    } in
+    let state : WorldState = state_in c.self.inside in
     let after = c.send-answer.new.flight.items in
     let new = sent_world state c.send-answer.new.book c.args.worker c.send-answer.new.node after in
     let left : c.note_sent.new.left.items ≡ sent_left state.routes (flight_of after) state.left =
@@ -157,14 +108,7 @@ returns-clause-gone g c =
 -- a lack of memory leaves all as it was
 pub returns-clause-same : goal.returns-clause-same
 returns-clause-same g c =
-    let state : WorldState = record {
-      book = c.self.inside.book;
-      nodes = c.self.inside.nodes.items;
-      flight = c.self.inside.flight.items;
-      left = c.self.inside.left.items;
-      relays = c.self.inside.relays.items;
-      routes = c.self.inside.routes;
-    } in
+    let state : WorldState = state_in c.self.inside in
     let was = c.index_mut-node.result.now in
     let after = c.send-answer.new.flight.items in
     let new = sent_world state c.send-answer.new.book c.args.worker c.send-answer.new.node after in

@@ -3,7 +3,7 @@ use Rattle.std.specs.Prelude.{IfErr, IfOk, OnErr}
 use Rattle.plans.specs.Steps.{IsStep}
 use Rattle.world.specs.scripts.Stepping.{HasActed, IsCausedBy, worker_of_step}
 use Rattle.world.specs.scripts.WorkerCalls.{IsAlone, IsFullStep}
-use Rattle.world.specs.scripts.WorldStates.{WorldState, world_of}
+use Rattle.world.specs.scripts.WorldStates.{WorldState, state_in, world_of}
 use Rattle.world.proofs.Results.{err-then, ok-then}
 use Rattle.world.proofs.scripts.WorldSteps.{acted-at, at-index, changed, fits-index, rested-at, stands-at, work-moved}
 use Rattle.world.proofs.scripts.WorkerLaws.{err-left}
@@ -14,14 +14,7 @@ use Rattle.world.proofs.scripts.world.World.step_alone.Goals as goal
 -- the worker fits its book
 pub call_alone-requires-clause-fits : goal.call_alone-requires-clause-fits
 call_alone-requires-clause-fits g c =
-    let state : WorldState = record {
-      book = c.self.inside.book;
-      nodes = c.self.inside.nodes.items;
-      flight = c.self.inside.flight.items;
-      left = c.self.inside.left.items;
-      relays = c.self.inside.relays.items;
-      routes = c.self.inside.routes;
-    } in
+    let state : WorldState = state_in c.self.inside in
     fits-index state c.args.worker c.index_mut-node.result.now c.self.invariant.0 c.requires.worker c.index_mut-node.ensures.value
 
 -- the step is one of the case
@@ -35,28 +28,14 @@ call_alone-requires-clause-step g c = (
 -- and of the worker
 pub call_alone-requires-clause-alone : goal.call_alone-requires-clause-alone
 call_alone-requires-clause-alone g c =
-    let state : WorldState = record {
-      book = c.self.inside.book;
-      nodes = c.self.inside.nodes.items;
-      flight = c.self.inside.flight.items;
-      left = c.self.inside.left.items;
-      relays = c.self.inside.relays.items;
-      routes = c.self.inside.routes;
-    } in
+    let state : WorldState = state_in c.self.inside in
     let at = at-index state c.args.worker c.index_mut-node.result.now c.self.invariant.0 c.requires.worker c.index_mut-node.ensures.value in
     subst (λ n. IsAlone n c.args.step.now) (sym (c.self.invariant.0.numbered c.args.worker c.index_mut-node.result.now at)) c.requires.alone
 
 -- the world stands
 pub invariant_of-self : goal.invariant_of-self
 invariant_of-self g c =
-    let state : WorldState = record {
-      book = c.self.inside.book;
-      nodes = c.self.inside.nodes.items;
-      flight = c.self.inside.flight.items;
-      left = c.self.inside.left.items;
-      relays = c.self.inside.relays.items;
-      routes = c.self.inside.routes;
-    } in
+    let state : WorldState = state_in c.self.inside in
     let was = c.index_mut-node.result.now in
     let at = at-index state c.args.worker was c.self.invariant.0 c.requires.worker c.index_mut-node.ensures.value in
     let called = c.call_alone.ensures.called in (
@@ -67,14 +46,7 @@ invariant_of-self g c =
 -- it does the step as the scripted world does
 pub returns-clause-acted : goal.returns-clause-acted
 returns-clause-acted g c =
-    let state : WorldState = record {
-      book = c.self.inside.book;
-      nodes = c.self.inside.nodes.items;
-      flight = c.self.inside.flight.items;
-      left = c.self.inside.left.items;
-      relays = c.self.inside.relays.items;
-      routes = c.self.inside.routes;
-    } in
+    let state : WorldState = state_in c.self.inside in
     let was = c.index_mut-node.result.now in
     let new = changed state c.call_alone.new.book c.args.worker c.call_alone.new.node state.flight in
     let at = at-index state c.args.worker was c.self.invariant.0 c.requires.worker c.index_mut-node.ensures.value in
@@ -86,14 +58,7 @@ returns-clause-acted g c =
 -- a refusal leaves the world as it was
 pub returns-clause-same : goal.returns-clause-same
 returns-clause-same g c =
-    let state : WorldState = record {
-      book = c.self.inside.book;
-      nodes = c.self.inside.nodes.items;
-      flight = c.self.inside.flight.items;
-      left = c.self.inside.left.items;
-      relays = c.self.inside.relays.items;
-      routes = c.self.inside.routes;
-    } in
+    let state : WorldState = state_in c.self.inside in
     let was = c.index_mut-node.result.now in
     let new = changed state c.call_alone.new.book c.args.worker c.call_alone.new.node state.flight in
     let at = at-index state c.args.worker was c.self.invariant.0 c.requires.worker c.index_mut-node.ensures.value in
@@ -105,14 +70,7 @@ returns-clause-same g c =
 -- its answer has its cause
 pub returns-clause-cause : goal.returns-clause-cause
 returns-clause-cause g c =
-    let state : WorldState = record {
-      book = c.self.inside.book;
-      nodes = c.self.inside.nodes.items;
-      flight = c.self.inside.flight.items;
-      left = c.self.inside.left.items;
-      relays = c.self.inside.relays.items;
-      routes = c.self.inside.routes;
-    } in
+    let state : WorldState = state_in c.self.inside in
     let was = c.index_mut-node.result.now in
     let after = c.call_alone.new.book.history in
     let at = at-index state c.args.worker was c.self.invariant.0 c.requires.worker c.index_mut-node.ensures.value in
@@ -125,14 +83,7 @@ returns-clause-cause g c =
 -- where the history is full the step would have appended an entry
 pub returns-clause-full : goal.returns-clause-full
 returns-clause-full g c =
-    let state : WorldState = record {
-      book = c.self.inside.book;
-      nodes = c.self.inside.nodes.items;
-      flight = c.self.inside.flight.items;
-      left = c.self.inside.left.items;
-      relays = c.self.inside.relays.items;
-      routes = c.self.inside.routes;
-    } in
+    let state : WorldState = state_in c.self.inside in
     let was = c.index_mut-node.result.now in
     let at = at-index state c.args.worker was c.self.invariant.0 c.requires.worker c.index_mut-node.ensures.value in
     let full : IfErr c.call_alone.result (IsFullStep c.args.step.now state) =

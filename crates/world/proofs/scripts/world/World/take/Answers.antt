@@ -11,7 +11,7 @@ use Rattle.plans.specs.declared.step.Step.TheVariants as steps
 use Rattle.world.specs.scripts.Standing.{IsWorld}
 use Rattle.world.specs.scripts.Stepping.{HasActed, HasFaulted, IsCausedBy}
 use Rattle.world.specs.scripts.WorkerCalls.{IsFullStep, answered_in_place}
-use Rattle.world.specs.scripts.WorldStates.{WorldState, world_of}
+use Rattle.world.specs.scripts.WorldStates.{WorldState, state_in, world_of}
 use Rattle.world.proofs.Results.{err-then, ok-then}
 use Rattle.world.proofs.scripts.TakeLaws.{ready-of}
 use Rattle.world.proofs.scripts.TakeSteps.{found-sent, take-far, take-left, take-not, taken-at, taken-rested, taken-stands}
@@ -25,14 +25,7 @@ use Rattle.world.proofs.scripts.world.World.take.Goals as goal
 -- no message is there
 pub returns-in_default-clause-acted : goal.returns-in_default-clause-acted
 returns-in_default-clause-acted g c =
-    let state : WorldState = record {
-      book = c.self.inside.book;
-      nodes = c.self.inside.nodes.items;
-      flight = c.self.inside.flight.items;
-      left = c.self.inside.left.items;
-      relays = c.self.inside.relays.items;
-      routes = c.self.inside.routes;
-    } in
+    let state : WorldState = state_in c.self.inside in
     let at : unwrap_or (slice_get state.flight c.args.message) None ≡ None = search rules in
     subst (λ (s : WorldState). HasActed (steps.Take c.args.worker c.args.message) s s outcomes.Nothing) c.self.view_is
     (if-there state.book.rows (λ told. take-not state.book.case state c.args.worker c.args.message at))
@@ -40,14 +33,7 @@ returns-in_default-clause-acted g c =
 -- it has relays to pass first
 pub returns-then-to_pass-gt0-clause-acted : goal.returns-then-to_pass-gt0-clause-acted
 returns-then-to_pass-gt0-clause-acted g c =
-    let state : WorldState = record {
-      book = c.self.inside.book;
-      nodes = c.self.inside.nodes.items;
-      flight = c.self.inside.flight.items;
-      left = c.self.inside.left.items;
-      relays = c.self.inside.relays.items;
-      routes = c.self.inside.routes;
-    } in
+    let state : WorldState = state_in c.self.inside in
     let at : unwrap_or (slice_get state.flight c.args.message) None ≡ Some c.in-Some.found.now = search rules in
     let far : nat_lt 0 (unwrap_or (slice_get state.left c.args.message) 0) ≡ true = search rules in
     subst (λ (s : WorldState). HasActed (steps.Take c.args.worker c.args.message) s s outcomes.Nothing) c.self.view_is
@@ -56,14 +42,7 @@ returns-then-to_pass-gt0-clause-acted g c =
 -- the message goes to a row that may be there
 pub answered_in_place-requires-clause-addressed : goal.answered_in_place-requires-clause-addressed
 answered_in_place-requires-clause-addressed g c =
-    let state : WorldState = record {
-      book = c.self.inside.book;
-      nodes = c.self.inside.nodes.items;
-      flight = c.self.inside.flight.items;
-      left = c.self.inside.left.items;
-      relays = c.self.inside.relays.items;
-      routes = c.self.inside.routes;
-    } in
+    let state : WorldState = state_in c.self.inside in
     let at : unwrap_or (slice_get state.flight c.args.message) None ≡ Some c.in-Some.found.now = search rules in
     subst (λ (k : CaseShape). IsAddressed k.topology (outgoing_of c.in-Some.found.now)) (sym c.case-case.ensures.case)
     (found-sent state c.args.message c.in-Some.found.now c.self.invariant.0 at).addressed
@@ -71,28 +50,14 @@ answered_in_place-requires-clause-addressed g c =
 -- what the worker has prepared was handled
 pub answered_in_place-requires-clause-ready : goal.answered_in_place-requires-clause-ready
 answered_in_place-requires-clause-ready g c =
-    let state : WorldState = record {
-      book = c.self.inside.book;
-      nodes = c.self.inside.nodes.items;
-      flight = c.self.inside.flight.items;
-      left = c.self.inside.left.items;
-      relays = c.self.inside.relays.items;
-      routes = c.self.inside.routes;
-    } in
+    let state : WorldState = state_in c.self.inside in
     ready-of state.book.case (own_view state.book) c.index-here.result.now
     (fits-index state c.args.worker c.index-here.result.now c.self.invariant.0 c.requires.worker c.index-here.ensures)
 
 -- the message stays
 pub returns-in-Some-answered_in_place-clause-acted : goal.returns-in-Some-answered_in_place-clause-acted
 returns-in-Some-answered_in_place-clause-acted g c =
-    let state : WorldState = record {
-      book = c.self.inside.book;
-      nodes = c.self.inside.nodes.items;
-      flight = c.self.inside.flight.items;
-      left = c.self.inside.left.items;
-      relays = c.self.inside.relays.items;
-      routes = c.self.inside.routes;
-    } in
+    let state : WorldState = state_in c.self.inside in
     let at : unwrap_or (slice_get state.flight c.args.message) None ≡ Some c.in-Some.found.now = search rules in
     let here = at-index state c.args.worker c.index-here.result.now c.self.invariant.0 c.requires.worker c.index-here.ensures in
     let passed : unwrap_or (slice_get state.left c.args.message) 0 ≡ 0 = search rules in
@@ -107,40 +72,19 @@ returns-in-Some-answered_in_place-clause-acted g c =
 -- the message may have been sent
 pub receive-requires-clause-sent : goal.receive-requires-clause-sent
 receive-requires-clause-sent g c =
-    let state : WorldState = record {
-      book = c.self.inside.book;
-      nodes = c.self.inside.nodes.items;
-      flight = c.self.inside.flight.items;
-      left = c.self.inside.left.items;
-      relays = c.self.inside.relays.items;
-      routes = c.self.inside.routes;
-    } in
+    let state : WorldState = state_in c.self.inside in
     found-sent state c.args.message c.take_out-taken.result c.self.invariant.0 c.take_out-taken.ensures.taken
 
 -- the worker fits its book
 pub receive-requires-clause-fits : goal.receive-requires-clause-fits
 receive-requires-clause-fits g c =
-    let state : WorldState = record {
-      book = c.self.inside.book;
-      nodes = c.self.inside.nodes.items;
-      flight = c.self.inside.flight.items;
-      left = c.self.inside.left.items;
-      relays = c.self.inside.relays.items;
-      routes = c.self.inside.routes;
-    } in
+    let state : WorldState = state_in c.self.inside in
     fits-index state c.args.worker c.index_mut-node.result.now c.self.invariant.0 c.requires.worker c.index_mut-node.ensures.value
 
 -- the world stands
 pub invariant_of-self : goal.invariant_of-self
 invariant_of-self g c =
-    let state : WorldState = record {
-      book = c.self.inside.book;
-      nodes = c.self.inside.nodes.items;
-      flight = c.self.inside.flight.items;
-      left = c.self.inside.left.items;
-      relays = c.self.inside.relays.items;
-      routes = c.self.inside.routes;
-    } in
+    let state : WorldState = state_in c.self.inside in
     let was = c.index_mut-node.result.now in
     let here = at-index state c.args.worker was c.self.invariant.0 c.requires.worker c.index_mut-node.ensures.value in
     let called = c.receive.ensures.called in (
@@ -156,14 +100,7 @@ invariant_of-self g c =
 -- the message is taken as in the script
 pub returns-clause-acted : goal.returns-clause-acted
 returns-clause-acted g c =
-    let state : WorldState = record {
-      book = c.self.inside.book;
-      nodes = c.self.inside.nodes.items;
-      flight = c.self.inside.flight.items;
-      left = c.self.inside.left.items;
-      relays = c.self.inside.relays.items;
-      routes = c.self.inside.routes;
-    } in
+    let state : WorldState = state_in c.self.inside in
     let was = c.index_mut-node.result.now in
     let here = at-index state c.args.worker was c.self.invariant.0 c.requires.worker c.index_mut-node.ensures.value in
     let new = changed state c.receive.new.book c.args.worker c.receive.new.node (slice_set state.flight c.args.message None) in
@@ -178,14 +115,7 @@ returns-clause-acted g c =
 -- a fault leaves all but the message
 pub returns-clause-gone_or_same : goal.returns-clause-gone_or_same
 returns-clause-gone_or_same g c =
-    let state : WorldState = record {
-      book = c.self.inside.book;
-      nodes = c.self.inside.nodes.items;
-      flight = c.self.inside.flight.items;
-      left = c.self.inside.left.items;
-      relays = c.self.inside.relays.items;
-      routes = c.self.inside.routes;
-    } in
+    let state : WorldState = state_in c.self.inside in
     let was = c.index_mut-node.result.now in
     let here = at-index state c.args.worker was c.self.invariant.0 c.requires.worker c.index_mut-node.ensures.value in
     let new = changed state c.receive.new.book c.args.worker c.receive.new.node (slice_set state.flight c.args.message None) in
@@ -207,14 +137,7 @@ returns-in-Some-answered_in_place-clause-cause g c =
 -- an answer to one that is taken has its cause
 pub returns-clause-cause : goal.returns-clause-cause
 returns-clause-cause g c =
-    let state : WorldState = record {
-      book = c.self.inside.book;
-      nodes = c.self.inside.nodes.items;
-      flight = c.self.inside.flight.items;
-      left = c.self.inside.left.items;
-      relays = c.self.inside.relays.items;
-      routes = c.self.inside.routes;
-    } in
+    let state : WorldState = state_in c.self.inside in
     let was = c.index_mut-node.result.now in
     let after = c.receive.new.book.history in
     let here = at-index state c.args.worker was c.self.invariant.0 c.requires.worker c.index_mut-node.ensures.value in
@@ -226,14 +149,7 @@ returns-clause-cause g c =
 -- where the history is full the step would have appended an entry
 pub returns-clause-full : goal.returns-clause-full
 returns-clause-full g c =
-    let state : WorldState = record {
-      book = c.self.inside.book;
-      nodes = c.self.inside.nodes.items;
-      flight = c.self.inside.flight.items;
-      left = c.self.inside.left.items;
-      relays = c.self.inside.relays.items;
-      routes = c.self.inside.routes;
-    } in
+    let state : WorldState = state_in c.self.inside in
     let was = c.index_mut-node.result.now in
     let here = at-index state c.args.worker was c.self.invariant.0 c.requires.worker c.index_mut-node.ensures.value in
     let passed : unwrap_or (slice_get state.left c.args.message) 0 ≡ 0 = search rules in
