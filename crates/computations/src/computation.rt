@@ -23,7 +23,8 @@ pub trait Computation {
         context: &mut Context,
         item: &Record,
     ) -> Result<(), NoMemory>
-        requires made { context.old ≡ begun_by context.old.key context.old.state (OfRecord item.now) }
+        requires made { context.old
+            ≡ begun_by context.old.key context.old.state (OfRecord item.now) }
         requires computation { (does self.now).has part context.old.state }
         requires within { IsWithin context.old.state }
         requires in_time { item.now.stamp ≤ MAX_STAMP }
@@ -39,7 +40,8 @@ pub trait Computation {
         context: &mut Context,
         timer: &Timer,
     ) -> Result<(), NoMemory>
-        requires made { context.old ≡ begun_by context.old.key context.old.state (OfTimer timer.now) }
+        requires made { context.old
+            ≡ begun_by context.old.key context.old.state (OfTimer timer.now) }
         requires computation { (does self.now).has part context.old.state }
         requires within { IsWithin context.old.state }
         requires in_time { timer.now.time ≤ MAX_STAMP }

@@ -52,7 +52,8 @@ impl Context {
         state: &State,
         item: &Record,
     ) -> Result<Context, NoMemory>
-        ensures { IfOk result (λ context. context ≡ begun_by key.now state.now (OfRecord item.now)) }
+        ensures { IfOk result (λ context.
+            context ≡ begun_by key.now state.now (OfRecord item.now)) }
     {
         Ok(Context {
             key: key.copy(alloc)?,
@@ -72,7 +73,8 @@ impl Context {
         state: &State,
         timer: &Timer,
     ) -> Result<Context, NoMemory>
-        ensures { IfOk result (λ context. context ≡ begun_by key.now state.now (OfTimer timer.now)) }
+        ensures { IfOk result (λ context.
+            context ≡ begun_by key.now state.now (OfTimer timer.now)) }
     {
         Ok(Context {
             key: key.copy(alloc)?,

@@ -64,7 +64,8 @@ pub(crate) fn on_timer(alloc: Global, context: &mut Context, timer: &Timer) -> R
     requires within { IsWithin context.old.state }
     requires in_time { timer.now.time ≤ MAX_STAMP }
     ensures effects { (size : ℕ) →
-        let o = effects_of (kinds.Count size) context.old.key context.old.state (OfTimer timer.now) in
+        let kind = kinds.Count size in
+        let o = effects_of kind context.old.key context.old.state (OfTimer timer.now) in
         OnOk result (context.new ≡ ended_with context.old o) }
     ensures within { OnOk result (IsWithin context.new.state) }
 {
