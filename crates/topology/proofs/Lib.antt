@@ -6,6 +6,7 @@ pub mod Texts
 pub mod RulesHold
 pub mod Stating
 pub mod Forms
+pub mod Lists
 pub mod FoldLaws
 pub mod ReadOrder
 pub mod WhatIsLeft
