@@ -16,13 +16,15 @@ abbrev ways_of : Strong → ℕ
 ways_of reader = length reader.ways
 
 -- there are no fewer ways with one computation more
-more-ways : (n : ℕ) (c : ComputationShape) → 1 ≤ length c.reads → (readers : List Strong) → way_count readers ≤ way_count (with_first n c readers)
+more-ways : (n : ℕ) (c : ComputationShape) → 1 ≤ length c.reads → (readers : List Strong)
+    → way_count readers ≤ way_count (with_first n c readers)
 more-ways n c some readers =
     cond_both c.weak (map (strong_through n c) readers) (strong_as c ∷ readers) (λ l. way_count readers ≤ way_count l)
     (λ weak. omega (
       arith,
       sum_by-map ways_of (strong_through n c) readers,
-      sum_by-le-sum_by ways_of (λ s. ways_of (strong_through n c s)) readers (λ s. length-flat_map_some (way_through n c) each s.ways),
+      sum_by-le-sum_by ways_of (λ s. ways_of (strong_through n c s)) readers
+          (λ s. length-flat_map_some (way_through n c) each s.ways),
     ))
     (λ strong. omega (arith, sum_by-cons ways_of (strong_as c) readers))
   where
@@ -38,12 +40,13 @@ many readers = by (nat_le (way_count readers) 64) refl
     by false many none = leb-false (way_count readers) 64 many
 
 -- where there are many behind a computation, there are many with it
-pub none-with_first : (n : ℕ) (cs : List ComputationShape) (c : ComputationShape) (rest : List ComputationShape) → cs ≡ c ∷ rest → AllRead cs
+pub none-with_first : (n : ℕ) (cs : List ComputationShape) (c : ComputationShape) (rest : List ComputationShape)
+    → cs ≡ c ∷ rest → AllRead cs
     → None ≡ unless_many (strong_from (number_behind n c) rest) → None ≡ unless_many (strong_from n cs)
 none-with_first n cs c rest split read none =
     let behind = strong_from (number_behind n c) rest in
-    let some = (recursion_from_All (λ (d : ComputationShape). 1 ≤ length d.reads) (c ∷ rest) (subst AllRead split read)).0 in
+    let all = recursion_from_All (λ (d : ComputationShape). 1 ≤ length d.reads) (c ∷ rest) (subst AllRead split read) in
     let first = with_first n c behind in
-    let more : 64 < way_count first = omega (arith, many behind none, more-ways n c some behind) in
+    let more : 64 < way_count first = omega (arith, many behind none, more-ways n c all.0 behind) in
     sym (cond-false (nat_le (way_count first) 64) (Some first) None (lt-leb (way_count first) 64 more))
     ∙ ap unless_many (sym (ap (strong_from n) split ∙ strong_from-cons n c rest))

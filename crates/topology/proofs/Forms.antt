@@ -1,18 +1,19 @@
 -- What a shape has that a file's value states.
-use Rattle.std.proofs.Common.{◌≡◌, ◌≤◌, Bool, true, false, cond, List, [], ◌∷◌, length, All, Option, Some, None, unwrap_or, codes, true≢false, refl, sym, ◌∙◌, ap, subst, arith}
+use Rattle.std.proofs.Common.{◌≡◌, ℕ, ◌≤◌, Bool, true, false, cond, List, [], ◌∷◌, length, All, Option, Some, None, unwrap_or, codes, true≢false, refl, sym, ◌∙◌, ap, subst, arith}
 use Rattle.std.proofs.lemmas.Option.{none-some}
 use Rattle.std.proofs.lemmas.List.Elements.{All-nil, All-cons}
 use Rattle.serde_json.specs.Data.{Data, Items, no_items, item}
 use Rattle.mw_types.specs.declared.kind.Kind.{Kind}
 use Rattle.mw_types.specs.declared.kind.Kind.TheVariants.{Count, Spike, Pass}
-use Rattle.topology.specs.Shapes.{Shape, InjectorShape, ComputationShape}
-use Rattle.topology.specs.Grammar.{and_then, has_members, each_of, array_in, list_in, injector_in, some_of, text_in, reading_in, kind_in, reads_in, cuts_in, weakness_in, members_of, computation_named, computation_reading, computation_in, injectors_in, shape_in, computation_of_kind}
+use Rattle.topology.specs.Shapes.{Shape, InjectorShape, ComputationShape, Reading}
+use Rattle.topology.specs.Grammar.{and_then, has_members, each_of, array_in, list_in, injector_in, some_of, reading_in, kind_in, reads_in, cuts_in, weakness_in, members_of, names_in, lists_in, computation_with, computation_in, injectors_in, shape_in, computation_of_kind}
 use Rattle.topology.specs.Rules.{IsPassWhereWeak}
 use Rattle.topology.specs.Answers.{IsFull}
 use Rattle.list_lemmas.proofs.Lists.{some_same}
 
 -- what two steps give, the first gave something for
-and_then-some : {A B : Type 0} (o : Option A) (f : A → Option B) (y : B) → and_then o f ≡ Some y → (x : A) × (o ≡ Some x) × (f x ≡ Some y)
+and_then-some : {A B : Type 0} (o : Option A) (f : A → Option B) (y : B) → and_then o f ≡ Some y
+    → (x : A) × (o ≡ Some x) × (f x ≡ Some y)
 and_then-some None f y e = absurd (none-some y e)
 and_then-some (Some x) f y e = (x, refl, e)
 
@@ -47,13 +48,15 @@ computation_in-as_stated : (value : Data) (c : ComputationShape) → computation
 computation_in-as_stated value c e =
     let kind = and_then-some (kind_in value) (computation_of_kind value) c e in
     let members = if-some (has_members (members_of kind.0 value) value) _ c kind.2 in
-    let weak = and_then-some (weakness_in kind.0 value) (computation_named value kind.0) c members in
-    let name = and_then-some (text_in (codes "name") value) _ c weak.2 in
-    let reads = and_then-some (reads_in value) (computation_reading value kind.0 weak.0 name.0) c name.2 in
-    let stream = and_then-some (text_in (codes "stream") value) _ c reads.2 in
-    let cuts = and_then-some (cuts_in value) _ c stream.2 in
-    at_some (λ (d : ComputationShape). (weakness_in d.kind value ≡ Some d.weak) × (reads_in value ≡ Some d.reads)) _ c cuts.2
-    (weak.1, reads.1)
+    let weak = and_then-some (weakness_in kind.0 value) (computation_with value kind.0) c members in
+    let names = and_then-some (names_in value) _ c weak.2 in
+    let lists = and_then-some (lists_in value) _ c names.2 in
+    let reads = and_then-some (reads_in value) _ lists.0 lists.1 in
+    let cuts = and_then-some (cuts_in value) _ lists.0 reads.2 in
+    let first : reads_in value ≡ Some lists.0.0 =
+    at_some (λ (p : List Reading × List (List ℕ)). reads_in value ≡ Some p.0) _ lists.0 cuts.2 reads.1 in
+    at_some (λ (d : ComputationShape). (weakness_in d.kind value ≡ Some d.weak) × (reads_in value ≡ Some d.reads)) _ c
+    lists.2 (weak.1, first)
 
 -- a computation reads something
 computation_in-reads : (value : Data) (c : ComputationShape) → computation_in value ≡ Some c → 1 ≤ length c.reads
@@ -74,7 +77,8 @@ computation_in-weak value c e weak = only-passes c.kind value ((computation_in-a
 
 -- the parts of a shape are those that were found
 parts_stated : (i : Option (List InjectorShape)) (cs : Option (List ComputationShape)) (shape : Shape)
-    → and_then i (λ injectors. and_then cs (λ computations. Some (record { injectors = injectors; computations = computations }))) ≡ Some shape
+    → and_then i (λ injectors. and_then cs (λ computations.
+    Some (record { injectors = injectors; computations = computations }))) ≡ Some shape
     → (i ≡ Some shape.injectors) × (cs ≡ Some shape.computations)
 parts_stated None cs shape e = absurd (none-some shape e)
 parts_stated (Some i) None shape e = absurd (none-some shape e)
@@ -88,9 +92,11 @@ full_shape value shape e =
     let computations = list_in computation_in (codes "computations") value in
     let stated = parts_stated (injectors_in value) computations shape (if-some (has_members 2 value) _ shape e) in
     let first = and_then-some injectors some_of shape.injectors stated.0 in
-    let listed = and_then-some (array_in (codes "computations") value) (each_of computation_in) shape.computations stated.1 in
+    let listed =
+    and_then-some (array_in (codes "computations") value) (each_of computation_in) shape.computations stated.1 in
     record {
       some_injector = some_of-some first.0 shape.injectors first.2;
-      reading = each_of-all computation_in (λ (c : ComputationShape). 1 ≤ length c.reads) computation_in-reads listed.0 shape.computations listed.2;
+      reading = each_of-all computation_in (λ (c : ComputationShape). 1 ≤ length c.reads) computation_in-reads listed.0
+          shape.computations listed.2;
       passes = each_of-all computation_in IsPassWhereWeak computation_in-weak listed.0 shape.computations listed.2;
     }

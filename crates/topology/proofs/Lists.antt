@@ -17,12 +17,15 @@ pub all-pass : {X : Type 0} (p : X → Bool) (xs : List X) → AllByRecursion (�
 all-pass p xs each = list_all-from_AllPass p xs (All-from_recursion (λ x. p x ≡ true) xs each)
 
 -- where all pass one test, all pass a weaker one
-pub all-weaker : {X : Type 0} (p q : X → Bool) → ((x : X) → p x ≡ true → q x ≡ true) → (xs : List X) → list_all p xs ≡ true
+pub all-weaker : {X : Type 0} (p q : X → Bool) → ((x : X) → p x ≡ true → q x ≡ true) → (xs : List X)
+    → list_all p xs ≡ true
     → list_all q xs ≡ true
-all-weaker p q weaker xs all = all-pass q xs (each-weaker (λ x. p x ≡ true) (λ x. q x ≡ true) weaker xs (each-passes p xs all))
+all-weaker p q weaker xs all =
+    all-pass q xs (each-weaker (λ x. p x ≡ true) (λ x. q x ≡ true) weaker xs (each-passes p xs all))
 
 -- what holds of the images holds of what they are images of
-pub map-each : {X Y : Type 0} (P : Y → Type 0) (f : X → Y) (xs : List X) → AllByRecursion P (map f xs) → AllByRecursion (λ x. P (f x)) xs
+pub map-each : {X Y : Type 0} (P : Y → Type 0) (f : X → Y) (xs : List X) → AllByRecursion P (map f xs)
+    → AllByRecursion (λ x. P (f x)) xs
 map-each P f [] each = tt
 map-each P f (x ∷ xs) each = (each.0, map-each P f xs each.1)
 
@@ -32,7 +35,8 @@ pub each-turned : {A B : Type 0} (P : A → B → Type 0) (xs : List A) (ys : Li
 each-turned P xs [] each = tt
 each-turned P xs (y ∷ ys) each = (
   each-weaker (λ a. AllByRecursion (P a) (y ∷ ys)) (λ a. P a y) (λ a all. all.0) xs each,
-  each-turned P xs ys (each-weaker (λ a. AllByRecursion (P a) (y ∷ ys)) (λ a. AllByRecursion (P a) ys) (λ a all. all.1) xs each),
+  each-turned P xs ys (each-weaker (λ a. AllByRecursion (P a) (y ∷ ys)) (λ a. AllByRecursion (P a) ys)
+      (λ a all. all.1) xs each),
 )
 
 -- a sum over images
@@ -40,7 +44,8 @@ pub sum_by-map : {X Y : Type 0} (g : Y → ℕ) (f : X → Y) (xs : List X) → 
 sum_by-map g f xs = sym (sum-map g (map f xs)) ∙ ap sum (map-map g f xs) ∙ sum-map (λ x. g (f x)) xs
 
 -- where none passes, none of a part does
-pub any-fewer : {X Y : Type 0} (p : Y → Bool) (f : X → Y) (keep : X → Bool) (xs : List X) → list_any p (map f xs) ≡ false
+pub any-fewer : {X Y : Type 0} (p : Y → Bool) (f : X → Y) (keep : X → Bool) (xs : List X)
+    → list_any p (map f xs) ≡ false
     → list_any p (map f (filter keep xs)) ≡ false
 any-fewer p f keep [] none = refl
 any-fewer p f keep (x ∷ xs) none =
@@ -50,11 +55,18 @@ any-fewer p f keep (x ∷ xs) none =
     (λ kept. or_from (p (f x)) (list_any p (map f (filter keep xs))) neither.0 rest) (λ left_out. rest)
 
 -- lists of which none is empty are as long as they are many, joined
-pub length-flat_map_some : {X Y : Type 0} (f : X → List Y) → ((x : X) → 1 ≤ length (f x)) → (xs : List X) → length xs ≤ length (flat_map f xs)
+pub length-flat_map_some : {X Y : Type 0} (f : X → List Y) → ((x : X) → 1 ≤ length (f x)) → (xs : List X)
+    → length xs ≤ length (flat_map f xs)
 length-flat_map_some f some [] = omega arith
-length-flat_map_some f some (x ∷ xs) = omega (arith, some x, length-append (f x) (flat_map f xs), length-flat_map_some f some xs)
+length-flat_map_some f some (x ∷ xs) = omega (
+  arith,
+  some x,
+  length-append (f x) (flat_map f xs),
+  length-flat_map_some f some xs,
+)
 
 -- a list is not empty where it is the images of one that is not, or else of one element
-pub some-either : {X Y : Type 0} (b : Bool) (f : X → Y) (xs : List X) (y : Y) → 1 ≤ length xs → 1 ≤ length (cond b (map f xs) (y ∷ []))
+pub some-either : {X Y : Type 0} (b : Bool) (f : X → Y) (xs : List X) (y : Y) → 1 ≤ length xs
+    → 1 ≤ length (cond b (map f xs) (y ∷ []))
 some-either true f xs y some = omega (arith, some, length-map xs f)
 some-either false f xs y some = omega arith

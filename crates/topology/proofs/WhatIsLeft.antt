@@ -34,6 +34,14 @@ stays c = not c.weak
 abbrev read_count : ComputationShape → ℕ
 read_count c = length c.reads
 
+-- a computation reads something
+abbrev Reads : ComputationShape → Type 0
+Reads c = 1 ≤ read_count c
+
+-- how many cuts it has
+abbrev cut_count : ComputationShape → ℕ
+cut_count c = length c.cuts
+
 module _ {Y : Type 0} (f : ComputationShape → Y) (own : (gone c : ComputationShape) → f (through gone c) ≡ f c) where
   -- what doesn't depend on readings is as it was, of all that stay
   kept : (cs : List ComputationShape) → map f (strong_ones cs) ≡ map f (filter stays cs)
@@ -45,7 +53,8 @@ module _ {Y : Type 0} (f : ComputationShape → Y) (own : (gone c : ComputationS
       ap (λ l. f c ∷ l) rest ∙ ap (λ b. map f (cond (not b) (c ∷ filter stays cs) (filter stays cs))) (sym strong))
 
   -- so a fact of it that holds of each holds of each that stays
-  pub each-left : (P : Y → Type 0) (cs : List ComputationShape) → AllByRecursion (λ c. P (f c)) cs → AllByRecursion (λ c. P (f c)) (strong_ones cs)
+  pub each-left : (P : Y → Type 0) (cs : List ComputationShape) → AllByRecursion (λ c. P (f c)) cs
+      → AllByRecursion (λ c. P (f c)) (strong_ones cs)
   each-left P cs each =
       map-each P f (strong_ones cs) (subst (AllByRecursion P) (sym (kept cs))
       (each-map P f (filter stays cs) (each-filter (λ c. P (f c)) stays cs each)))
@@ -56,10 +65,12 @@ module _ {Y : Type 0} (f : ComputationShape → Y) (own : (gone c : ComputationS
       All-from_recursion (λ c. P (f c)) (strong_ones cs) (each-left P cs (recursion_from_All (λ c. P (f c)) cs all))
 
   -- a test of it, behind other things that are tested
-  tests-left : (test : Y → Bool) (before : List Y) (cs : List ComputationShape) → list_all test (before ++ map f cs) ≡ true
+  tests-left : (test : Y → Bool) (before : List Y) (cs : List ComputationShape)
+      → list_all test (before ++ map f cs) ≡ true
       → list_all test (before ++ map f (strong_ones cs)) ≡ true
   tests-left test before cs passes =
-      let both = and_parts (list_all test before) (list_all test (map f cs)) (sym (list_all-append test before (map f cs)) ∙ passes) in
+      let both = and_parts (list_all test before) (list_all test (map f cs))
+      (sym (list_all-append test before (map f cs)) ∙ passes) in
       let each = map-each (λ y. test y ≡ true) f cs (each-passes test (map f cs) both.1) in
       list_all-append test before (map f (strong_ones cs))
       ∙ and_from (list_all test before) (list_all test (map f (strong_ones cs))) both.0
@@ -74,8 +85,10 @@ differ-fewer f (x ∷ before) cs differ =
     let neither = or_parts (list_any (is x) before) (list_any (is x) (map f cs))
     (sym (list_any-append (is x) before (map f cs)) ∙ not-true (list_any (is x) (before ++ map f cs)) both.0) in
     let new = list_any-append (is x) before (map f (filter stays cs))
-    ∙ or_from (list_any (is x) before) (list_any (is x) (map f (filter stays cs))) neither.0 (any-fewer (is x) f stays cs neither.1) in
-    and_from (not (list_any (is x) (before ++ map f (filter stays cs)))) (all_differ (before ++ map f (filter stays cs)))
+    ∙ or_from (list_any (is x) before) (list_any (is x) (map f (filter stays cs))) neither.0
+    (any-fewer (is x) f stays cs neither.1) in
+    and_from (not (list_any (is x) (before ++ map f (filter stays cs))))
+    (all_differ (before ++ map f (filter stays cs)))
     (not_from_false (list_any (is x) (before ++ map f (filter stays cs))) new) (differ-fewer f before cs both.1)
 differ-fewer f [] [] differ = differ
 differ-fewer f [] (c ∷ cs) differ =
@@ -88,9 +101,11 @@ differ-fewer f [] (c ∷ cs) differ =
     (λ left_out. rest)
 
 -- so do those of computations that stay
-differ-left : (f : ComputationShape → List ℕ) → ((gone c : ComputationShape) → f (through gone c) ≡ f c) → (before : List (List ℕ))
-    (cs : List ComputationShape) → all_differ (before ++ map f cs) ≡ true → all_differ (before ++ map f (strong_ones cs)) ≡ true
-differ-left f own before cs differ = ap (λ l. all_differ (before ++ l)) (kept f own cs) ∙ differ-fewer f before cs differ
+differ-left : (f : ComputationShape → List ℕ) → ((gone c : ComputationShape) → f (through gone c) ≡ f c)
+    → (before : List (List ℕ)) (cs : List ComputationShape) → all_differ (before ++ map f cs) ≡ true
+    → all_differ (before ++ map f (strong_ones cs)) ≡ true
+differ-left f own before cs differ = ap (λ l. all_differ (before ++ l)) (kept f own cs)
+    ∙ differ-fewer f before cs differ
 
 -- they are no more than before
 count-left : (cs : List ComputationShape) → length (strong_ones cs) ≤ length cs
@@ -105,10 +120,8 @@ count-left cs =
     )
 
 -- and have no more cuts
-cuts-left : (cs : List ComputationShape)
-    → sum_by (λ (c : ComputationShape). length c.cuts) (strong_ones cs) ≤ sum_by (λ (c : ComputationShape). length c.cuts) cs
+cuts-left : (cs : List ComputationShape) → sum_by cut_count (strong_ones cs) ≤ sum_by cut_count cs
 cuts-left cs =
-    let cut_count : ComputationShape → ℕ = λ c. length c.cuts in
     omega (
       arith,
       sum_by-filter_both (λ (c : ComputationShape). c.weak) stays (λ c. refl) cut_count cs,
@@ -120,30 +133,28 @@ cuts-left cs =
 -- ---- what each of them reads
 
 -- where all read something, so do those that stay
-some-left : (cs : List ComputationShape) → AllByRecursion (λ (c : ComputationShape). 1 ≤ read_count c) cs
-    → AllByRecursion (λ (c : ComputationShape). 1 ≤ read_count c) (strong_ones cs)
-some-left = by_computation
-    (λ cs left. AllByRecursion (λ (c : ComputationShape). 1 ≤ read_count c) cs → AllByRecursion (λ (c : ComputationShape). 1 ≤ read_count c) left)
-    (λ each. tt)
-    (λ gone cs left weak rest each. each-map (λ (c : ComputationShape). 1 ≤ read_count c) (through gone) left
-    (each-weaker (λ (c : ComputationShape). 1 ≤ read_count c) (λ (c : ComputationShape). 1 ≤ read_count (through gone c))
-    (more gone each.0) left (rest each.1)))
+some-left : (cs : List ComputationShape) → AllByRecursion Reads cs → AllByRecursion Reads (strong_ones cs)
+some-left =
+    by_computation (λ cs left. AllByRecursion Reads cs → AllByRecursion Reads left) (λ each. tt)
+    (λ gone cs left weak rest each. each-map Reads (through gone) left
+    (each-weaker Reads (λ c. Reads (through gone c)) (still gone each.0) left (rest each.1)))
     (λ c cs left strong rest each. (each.0, rest each.1))
   where
-    more : (gone : ComputationShape) → 1 ≤ read_count gone → (c : ComputationShape) → 1 ≤ read_count c → 1 ≤ read_count (through gone c)
-    more gone some c reads = omega (
-      arith,
-      reads,
-      length-flat_map_some (reading_through gone)
-          (λ r. some-either (is r.stream gone.stream) (λ (q : Reading). record { stream = q.stream; by = r.by }) gone.reads r some) c.reads,
-    )
+    still : (gone : ComputationShape) → Reads gone → (c : ComputationShape) → Reads c → Reads (through gone c)
+    still gone some c reads =
+        let each : (r : Reading) → 1 ≤ length (reading_through gone r) =
+        λ r. some-either (is r.stream gone.stream) (λ (q : Reading). record { stream = q.stream; by = r.by }) gone.reads r
+        some in
+        omega (arith, reads, length-flat_map_some (reading_through gone) each c.reads)
 
 -- what is known among some streams is known among others, but for this one
 abbrev KnownBut : List ℕ → List (List ℕ) → List (List ℕ) → Type 0
-KnownBut gone known others = (s : List ℕ) → is s gone ≡ false → list_any (is s) known ≡ true → list_any (is s) others ≡ true
+KnownBut gone known others = (s : List ℕ) → is s gone ≡ false → list_any (is s) known ≡ true
+    → list_any (is s) others ≡ true
 
 -- and so it is with one stream more
-known-next : (gone x : List ℕ) (known others : List (List ℕ)) → KnownBut gone known others → KnownBut gone (known ++ x ∷ []) (others ++ x ∷ [])
+known-next : (gone x : List ℕ) (known others : List (List ℕ)) → KnownBut gone known others
+    → KnownBut gone (known ++ x ∷ []) (others ++ x ∷ [])
 known-next gone x known others still s other there =
     list_any-append (is s) others (x ∷ [])
     ∙ elim (or_cases (list_any (is s) known) (is s x || false) (sym (list_any-append (is s) known (x ∷ [])) ∙ there)) [
@@ -154,7 +165,8 @@ known-next gone x known others still s other there =
 -- of streams and this one, all but this one are those
 known-but_last : (gone : List ℕ) (known : List (List ℕ)) → KnownBut gone (known ++ gone ∷ []) known
 known-but_last gone known s other there =
-    elim (or_cases (list_any (is s) known) (is s gone || false) (sym (list_any-append (is s) known (gone ∷ [])) ∙ there)) [
+    elim (or_cases (list_any (is s) known) (is s gone || false)
+    (sym (list_any-append (is s) known (gone ∷ [])) ∙ there)) [
       | inl old ↦ old
       | inr last ↦ absurd (both_ways (is s gone || false) (or_from (is s gone) false other refl) last)
     ]
@@ -178,21 +190,29 @@ among-through gone known others still sources (r ∷ rs) there =
 
 -- so computations read what is known without it, each in its turn
 order-through : (gone : ComputationShape) (known others : List (List ℕ)) → KnownBut gone.stream known others
-    → reads_among others gone.reads ≡ true → (cs : List ComputationShape) → ReadBefore known cs → ReadBefore others (map (through gone) cs)
+    → reads_among others gone.reads ≡ true → (cs : List ComputationShape) → ReadBefore known cs
+    → ReadBefore others (map (through gone) cs)
 order-through gone known others still sources [] reads = tt
 order-through gone known others still sources (c ∷ cs) reads = (
   among-through gone known others still sources c.reads reads.0,
-  order-through gone (known ++ c.stream ∷ []) (others ++ c.stream ∷ []) (known-next gone.stream c.stream known others still)
-      (all-weaker (λ (q : Reading). list_any (is q.stream) others) (λ (q : Reading). list_any (is q.stream) (others ++ c.stream ∷ []))
-      (λ q there. any-more q.stream others (c.stream ∷ []) there) gone.reads sources) cs reads.1,
+  order-through gone (known ++ c.stream ∷ []) next (known-next gone.stream c.stream known others still)
+      (all-weaker (λ (q : Reading). list_any (is q.stream) others) (λ (q : Reading). list_any (is q.stream) next)
+      (λ q there. any-more q.stream others (c.stream ∷ []) there) gone.reads sources)
+      cs reads.1,
 )
+  where
+    next : List (List ℕ)
+    next = others ++ c.stream ∷ []
 
 -- where each reads what is published before it, so does each that stays
-pub order-left : (known : List (List ℕ)) (cs : List ComputationShape) → ReadBefore known cs → ReadBefore known (strong_ones cs)
-order-left known cs reads = by_computation (λ cs left. (known : List (List ℕ)) → ReadBefore known cs → ReadBefore known left)
+pub order-left : (known : List (List ℕ)) (cs : List ComputationShape) → ReadBefore known cs
+    → ReadBefore known (strong_ones cs)
+order-left known cs reads =
+    by_computation (λ cs left. (known : List (List ℕ)) → ReadBefore known cs → ReadBefore known left)
     (λ known reads. tt)
-    (λ gone cs left weak rest known reads. order-through gone (known ++ gone.stream ∷ []) known (known-but_last gone.stream known)
-    reads.0 left (rest (known ++ gone.stream ∷ []) reads.1))
+    (λ gone cs left weak rest known reads.
+    let next = known ++ gone.stream ∷ [] in
+    order-through gone next known (known-but_last gone.stream known) reads.0 left (rest next reads.1))
     (λ c cs left strong rest known reads. (reads.0, rest (known ++ c.stream ∷ []) reads.1)) cs known reads
 
 -- ---- the same by the numbers of parts
@@ -211,33 +231,44 @@ known-first all known later split = ap (take (length known)) split ∙ take-appe
 
 -- where what is read at each place is among so many of all streams, each reads what is published before it
 order-at : (all known : List (List ℕ)) (cs : List ComputationShape) → all ≡ known ++ streams_by cs
-    → ((at : ℕ) → All (λ (r : Reading). Contains (take (length known + at) all) r.stream) (reads_at cs at)) → ReadBefore known cs
+    → ((at : ℕ) → All (λ (r : Reading). Contains (take (length known + at) all) r.stream) (reads_at cs at))
+    → ReadBefore known cs
 order-at all known [] split above = tt
-order-at all known (c ∷ cs) split above = (
-  list_all-from_AllPass (λ (r : Reading). list_any (is r.stream) known) c.reads
-      (All-weaker (λ (r : Reading). Contains known r.stream) (λ (r : Reading). list_any (is r.stream) known ≡ true)
-      (λ r there. list_any-from_Contains nat_list_eq_equiv r.stream known there) c.reads
-      (subst (λ l. All (λ (r : Reading). Contains l r.stream) c.reads) here (above 0))),
-  order-at all (known ++ c.stream ∷ []) cs (split ∙ names-next known c cs)
-      (λ at. subst (λ n. All (λ (r : Reading). Contains (take n all) r.stream) (reads_at cs at)) (one_more at) (above (suc at))),
-)
+order-at all known (c ∷ cs) split above =
+    (own, order-at all (known ++ c.stream ∷ []) cs (split ∙ names-next known c cs) (λ at. later at (above (suc at))))
   where
     here : take (length known + 0) all ≡ known
-    here = ap (λ n. take n all) nothing_more ∙ known-first all known (streams_by (c ∷ cs)) split
-      where
-        nothing_more : length known + 0 ≡ length known
-        nothing_more = omega arith
+    here =
+        let nothing_more : length known + 0 ≡ length known = omega arith in
+        ap (λ n. take n all) nothing_more ∙ known-first all known (streams_by (c ∷ cs)) split
+
+    own : reads_among known c.reads ≡ true
+    own = list_all-from_AllPass (λ (r : Reading). list_any (is r.stream) known) c.reads
+        (All-weaker (λ (r : Reading). Contains known r.stream) (λ (r : Reading). list_any (is r.stream) known ≡ true)
+        (λ r there. list_any-from_Contains nat_list_eq_equiv r.stream known there) c.reads
+        (subst (λ l. All (λ (r : Reading). Contains l r.stream) c.reads) here (above 0)))
 
     one_more : (at : ℕ) → length known + suc at ≡ length (known ++ c.stream ∷ []) + at
     one_more at = omega (arith, length-append known (c.stream ∷ []))
 
+    later : (at : ℕ) → All (λ (r : Reading). Contains (take (length known + suc at) all) r.stream) (reads_at cs at)
+        → All (λ (r : Reading). Contains (take (length (known ++ c.stream ∷ []) + at) all) r.stream) (reads_at cs at)
+    later at there =
+        subst (λ n. All (λ (r : Reading). Contains (take n all) r.stream) (reads_at cs at)) (one_more at) there
+
 -- and then each passes the test of a file's readings
-above-from : (all known : List (List ℕ)) (cs : List ComputationShape) → all ≡ known ++ streams_by cs → ReadBefore known cs
-    → list_all (λ (p : ℕ × ComputationShape). reads_among (take p.0 all) p.1.reads) (enumerate_from (length known) cs) ≡ true
+above-from : (all known : List (List ℕ)) (cs : List ComputationShape) → all ≡ known ++ streams_by cs
+    → ReadBefore known cs
+    → list_all (λ (p : ℕ × ComputationShape). reads_among (take p.0 all) p.1.reads) (enumerate_from
+    (length known) cs) ≡ true
 above-from all known [] split reads = refl
 above-from all known (c ∷ cs) split reads =
     let test : ℕ × ComputationShape → Bool = λ p. reads_among (take p.0 all) p.1.reads in
-    let one_more : length known + 1 ≡ length (known ++ c.stream ∷ []) = omega (arith, length-append known (c.stream ∷ [])) in
+    let one_more : length known + 1 ≡ length (known ++ c.stream ∷ []) = omega (
+      arith,
+      length-append known
+          (c.stream ∷ []),
+    ) in
     and_from (reads_among (take (length known) all) c.reads) (list_all test (enumerate_from (length known + 1) cs))
     (ap (λ l. reads_among l c.reads) (known-first all known (streams_by (c ∷ cs)) split) ∙ reads.0)
     (ap (λ n. list_all test (enumerate_from n cs)) one_more
@@ -247,7 +278,8 @@ above-from all known (c ∷ cs) split reads =
 pub topology-order : (shape : Shape) → IsTopology shape → ReadBefore (injected_streams shape) shape.computations
 topology-order shape is_topology =
     order-at (streams_of shape) (injected_streams shape) shape.computations refl (λ at.
-    subst (λ (p : ℕ × List Reading). All (λ (r : Reading). Contains (take p.0 (streams_of shape)) r.stream) p.1) (λ i. (number at i, reads at i))
+    subst (λ (p : ℕ × List Reading). All (λ (r : Reading). Contains (take p.0 (streams_of shape)) r.stream) p.1) (λ i.
+    (number at i, reads at i))
     (is_topology.above (injectors_of shape + at)))
   where
     number : (at : ℕ) → injectors_of shape + at ≡ length (injected_streams shape) + at
@@ -258,13 +290,15 @@ topology-order shape is_topology =
         let is_one : nat_lt (injectors_of shape + at) (injectors_of shape) ≡ false =
         le-ltb (injectors_of shape + at) (injectors_of shape) (omega arith) in
         let place : injectors_of shape + at - injectors_of shape ≡ at = omega arith in
-        λ i. unwrap_or (option_map (λ (c : ComputationShape). c.reads) (cond (is_one i) None (slice_get shape.computations (place i)))) []
+        λ i. unwrap_or (option_map (λ (c : ComputationShape). c.reads)
+        (cond (is_one i) None (slice_get shape.computations (place i)))) []
 
 -- and where they do, each part reads what parts with smaller numbers publish
 order-above : (shape : Shape) → ReadBefore (injected_streams shape) shape.computations
     → (part : ℕ) → All (λ (r : Reading). Contains (take part (streams_of shape)) r.stream) (reads_of shape part)
 order-above shape reads = reads_above-above shape (
-    ap (λ n. list_all (λ (p : ℕ × ComputationShape). reads_among (take p.0 (streams_of shape)) p.1.reads) (enumerate_from n shape.computations))
+    ap (λ n. list_all (λ (p : ℕ × ComputationShape). reads_among (take p.0 (streams_of shape)) p.1.reads)
+    (enumerate_from n shape.computations))
     (sym (length-map shape.injectors (λ (i : InjectorShape). i.stream)))
     ∙ above-from (streams_of shape) (injected_streams shape) shape.computations refl reads
     )
@@ -278,7 +312,8 @@ none-weak = by_computation (λ cs left. AllByRecursion (λ (c : ComputationShape
     (λ c cs left strong rest. (strong, rest))
 
 -- computations that are not weak stay as they are
-all-stay : (n : ℕ) (cs : List ComputationShape) → AllByRecursion (λ (c : ComputationShape). c.weak ≡ false) cs → strong_from n cs ≡ map strong_as cs
+all-stay : (n : ℕ) (cs : List ComputationShape) → AllByRecursion (λ (c : ComputationShape). c.weak ≡ false) cs
+    → strong_from n cs ≡ map strong_as cs
 all-stay n [] strong = refl
 all-stay n (c ∷ cs) strong =
     cond-false c.weak _ (strong_as c ∷ strong_from n cs) strong.0 ∙ ap (λ l. strong_as c ∷ l) (all-stay n cs strong.1)
@@ -289,10 +324,12 @@ strong-foldable : (shape : Shape) → AllByRecursion (λ (c : ComputationShape).
 strong-foldable shape strong few =
     let cs = shape.computations in
     let as_stated : way_count (map strong_as cs) ≡ sum_by read_count cs =
-    sum_by-map (λ (s : Strong). length s.ways) strong_as cs ∙ (λ i. sum_by (λ (c : ComputationShape). length-map c.reads way_of i) cs) in
+    sum_by-map (λ (s : Strong). length s.ways) strong_as cs
+    ∙ (λ i. sum_by (λ (c : ComputationShape). length-map c.reads way_of i) cs) in
     and_from (are_weak_read cs) (nat_le (way_count (strong_from 0 cs)) 64)
     (all-pass (λ (c : ComputationShape). not c.weak || is_read cs c.stream) cs
-    (each-weaker (λ (c : ComputationShape). c.weak ≡ false) (λ (c : ComputationShape). (not c.weak || is_read cs c.stream) ≡ true)
+    (each-weaker (λ (c : ComputationShape). c.weak ≡ false)
+    (λ (c : ComputationShape). (not c.weak || is_read cs c.stream) ≡ true)
     (λ c e. or_left (not c.weak) (is_read cs c.stream) (not_from_false c.weak e)) cs strong))
     (le-leb (way_count (strong_from 0 cs)) 64 (omega (arith, few, as_stated, ap way_count (all-stay 0 cs strong))))
 
@@ -311,8 +348,10 @@ readings-left : (shape : Shape) → is_foldable shape ≡ true → sum_by read_c
 readings-left shape foldable =
     let readers = strong_from 0 shape.computations in
     let ways : sum_by read_count (map left_of readers) ≡ way_count readers =
-    sum_by-map read_count left_of readers ∙ (λ i. sum_by (λ (s : Strong). length-map s.ways (λ (w : Way). w.reading) i) readers) in
-    let few = leb-true (way_count readers) 64 (and_parts (are_weak_read shape.computations) (nat_le (way_count readers) 64) foldable).1 in
+    sum_by-map read_count left_of readers
+    ∙ (λ i. sum_by (λ (s : Strong). length-map s.ways (λ (w : Way). w.reading) i) readers) in
+    let few = leb-true (way_count readers) 64 (and_parts (are_weak_read shape.computations)
+    (nat_le (way_count readers) 64) foldable).1 in
     omega (arith, few, ways, ap (sum_by read_count) (left-strong 0 shape.computations))
 
 -- and it keeps the rules
@@ -334,12 +373,13 @@ strong-topology shape rules =
       streams = tests-left stream (λ gone c. refl) is_name (injected_streams shape) cs rules.streams;
       names_differ = differ-left name (λ gone c. refl) names cs rules.names_differ;
       streams_differ = differ-left stream (λ gone c. refl) (injected_streams shape) cs rules.streams_differ;
-      reading = All-from_recursion (λ (c : ComputationShape). 1 ≤ read_count c) (strong_ones cs)
-          (some-left cs (recursion_from_All (λ (c : ComputationShape). 1 ≤ read_count c) cs rules.reading));
+      reading = All-from_recursion Reads (strong_ones cs)
+          (some-left cs (recursion_from_All Reads cs rules.reading));
       above = order-above (strong_shape shape) (order-left (injected_streams shape) cs (topology-order shape rules));
       kinds = all-left (λ (c : ComputationShape). c.kind) (λ gone c. refl) IsKind cs rules.kinds;
       cuts = all-left (λ (c : ComputationShape). c.cuts) (λ gone c. refl) AreCutKeys cs rules.cuts;
-      passes = all-left {Y = Bool × Kind} (λ (c : ComputationShape). (c.weak, c.kind)) (λ gone c. refl) (λ p. p.0 ≡ true → p.1 ≡ Pass) cs
+      passes = all-left {Y = Bool × Kind} (λ (c : ComputationShape). (c.weak, c.kind)) (λ gone c. refl)
+          (λ p. p.0 ≡ true → p.1 ≡ Pass) cs
           rules.passes;
       foldable = strong-foldable (strong_shape shape) (none-weak cs) few;
     }

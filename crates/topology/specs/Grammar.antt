@@ -145,30 +145,34 @@ weakness_in _ value = Some false
 abbrev pub members_of : Kind → Data → ℕ
 members_of kind value = 4 + numbers_of kind + optional_of kind value
 
--- a computation of which all is known but its stream and its cuts
-abbrev pub computation_reading : Data → Kind → Bool → List ℕ → List Reading → Option ComputationShape
-computation_reading value kind weak name reads =
-    and_then (text_in (codes "stream") value) (λ stream.
-    and_then (cuts_in value) (λ cuts. Some (record {
-      name = name;
+-- what a computation is called, and what its stream is called
+abbrev pub names_in : Data → Option (List ℕ × List ℕ)
+names_in value =
+    and_then (text_in (codes "name") value) (λ name.
+    and_then (text_in (codes "stream") value) (λ stream. Some (name, stream)))
+
+-- what it reads, and its cuts
+abbrev pub lists_in : Data → Option (List Reading × List (List ℕ))
+lists_in value = and_then (reads_in value) (λ reads. and_then (cuts_in value) (λ cuts. Some (reads, cuts)))
+
+-- a computation of this kind and weakness
+abbrev pub computation_with : Data → Kind → Bool → Option ComputationShape
+computation_with value kind weak =
+    and_then (names_in value) (λ names.
+    and_then (lists_in value) (λ lists. Some (record {
+      name = names.0;
       kind = kind;
-      reads = reads;
-      stream = stream;
-      cuts = cuts;
+      reads = lists.0;
+      stream = names.1;
+      cuts = lists.1;
       weak = weak;
     })))
-
--- a computation of which kind and weakness are known
-abbrev pub computation_named : Data → Kind → Bool → Option ComputationShape
-computation_named value kind weak =
-    and_then (text_in (codes "name") value) (λ name.
-    and_then (reads_in value) (computation_reading value kind weak name))
 
 -- a computation of this kind, which has the members of that kind and no other
 abbrev pub computation_of_kind : Data → Kind → Option ComputationShape
 computation_of_kind value kind =
     with_members (members_of kind value) value
-    (and_then (weakness_in kind value) (computation_named value kind))
+    (and_then (weakness_in kind value) (computation_with value kind))
 
 -- a computation
 abbrev pub computation_in : Data → Option ComputationShape

@@ -1,8 +1,8 @@
 //! Taking the weak computations out of a topology.
-ghost use Rattle.std.specs.Prelude.{◌≡◌, ◌<◌, ◌^◌, length, IfOk};
+ghost use Rattle.std.specs.Prelude.{◌≡◌, ◌<◌, ◌^◌, IfOk};
 ghost use Rattle.topology.specs.Shapes.{parts_of};
 ghost use Rattle.topology.specs.Rules.{IsTopology};
-ghost use Rattle.topology.specs.Folding.{is_read, are_weak_read, is_foldable, strong_from, folded, weak_count, routes_in};
+ghost use Rattle.topology.specs.Folding.{is_read, are_weak_read, is_foldable, strong_from, folded, routes_in};
 ghost use Rattle.topology.specs.Ways.{AllRead};
 
 use crate::parts::{ComputationPart, Parts};
@@ -41,7 +41,8 @@ fn are_weak_read(all: &[ComputationPart]) -> bool
         .all(|one| !one.weak() || is_read(all, one.stream.text()))
 }
 
-/// Whether they may all be taken out: each has a reader, and then there are no more than 64 readings.
+/// Whether they may all be taken out: each has a reader, and then there are no more than 64
+/// readings.
 pub fn is_foldable(alloc: Global, parts: &Parts) -> Result<bool, NoMemory>
     requires numbers { parts_of parts.now < 2 ^ 32 }
     requires reading { AllRead parts.now.computations }
@@ -77,17 +78,8 @@ fn fold_to<'p>(alloc: Global, parts: &Parts, readers: &[StrongPart<'p>]) -> Resu
     ensures routes { IfOk result (λ made. made.routes ≡ routes_in parts.now) }
 {
     let topology = topology_left(alloc, parts, readers)?;
-    let weaks = weak_count(parts.computations());
-    let routes = Routes::of(alloc, &topology, readers, weaks)?;
+    let routes = Routes::of(alloc, &topology, readers, parts)?;
     Ok(Folded { topology, routes })
-}
-
-// How many of these computations are weak.
-fn weak_count(all: &[ComputationPart]) -> u32
-    requires { length all.now < 2 ^ 32 }
-    ensures { result ≡ weak_count all.now }
-{
-    all.iter().filter(|one| one.weak()).count() as u32
 }
 
 // The topology of the computations that stay.

@@ -3,7 +3,7 @@ ghost use Rattle.std.specs.Prelude.{◌≡◌, ◌≤◌, codes, IfSome};
 ghost use Rattle.std.specs.Option.{option_map};
 ghost use Rattle.serde_json.specs.Find.{as_str};
 ghost use Rattle.serde_json.specs.View.{view, items_view};
-ghost use Rattle.topology.specs.Grammar.{and_then, has_members, each_of, list_of, array_in, list_in, some_of, text_in, number_in, injector_in, by_named, reading_in, kind_named, kind_in, reads_in, cuts_in, times_named, optional_of, weakness_in, members_of, computation_reading, computation_named, computation_in, injectors_in, shape_in, count_kind, spike_kind, computation_of_kind};
+ghost use Rattle.topology.specs.Grammar.{and_then, has_members, each_of, list_of, array_in, list_in, some_of, text_in, number_in, injector_in, by_named, reading_in, kind_named, kind_in, reads_in, cuts_in, times_named, optional_of, weakness_in, members_of, names_in, lists_in, computation_with, computation_in, injectors_in, shape_in, count_kind, spike_kind, computation_of_kind};
 ghost use Rattle.topology.specs.Answers.{Gives};
 
 use crate::file_parts::{FileComputation, FileParts};
@@ -251,8 +251,8 @@ fn times_named(value: &Value, name: &str) -> usize
     }
 }
 
-// How many members there are that may be missing. A `weak` that stands at another kind is not counted, and so is
-// one member too many.
+// How many members there are that may be missing. A `weak` that stands at another kind is not
+// counted, and so is one member too many.
 fn optional_of(kind: Kind, value: &Value) -> usize
     ensures { result ≡ optional_of kind (view value.now) }
 {
@@ -295,38 +295,40 @@ fn computation_of_kind(
         return Err(ShapeRefusal::BadShape);
     }
     match weakness_in(kind, value) {
-        Some(weak) => computation_named(alloc, value, kind, weak),
+        Some(weak) => computation_with(alloc, value, kind, weak),
         None => Err(ShapeRefusal::BadShape),
     }
 }
 
-// A computation of which kind and weakness are known.
-fn computation_named(
-    alloc: Global,
-    value: &Value,
-    kind: Kind,
-    weak: bool,
-) -> Result<FileComputation, ShapeRefusal>
-    ensures { Gives result (computation_named (view value.now) kind weak) }
+// What a computation is called, and what its stream is called.
+fn names_in(alloc: Global, value: &Value) -> Result<(Name, Name), ShapeRefusal>
+    ensures { Gives result (names_in (view value.now)) }
 {
     let name = name_in(alloc, value, "name")?;
-    let reads = reads_in(alloc, value)?;
-    computation_reading(alloc, value, kind, weak, name, reads)
+    let stream = name_in(alloc, value, "stream")?;
+    Ok((name, stream))
 }
 
-// A computation of which all is known but its stream and its cuts.
-fn computation_reading(
+// What it reads, and its cuts.
+fn lists_in(alloc: Global, value: &Value) -> Result<(Seq<ReadingPart>, Seq<Name>), ShapeRefusal>
+    ensures { Gives result (lists_in (view value.now)) }
+{
+    let reads = reads_in(alloc, value)?;
+    let cuts = cuts_in(alloc, value)?;
+    Ok((reads, cuts))
+}
+
+// A computation of this kind and weakness.
+fn computation_with(
     alloc: Global,
     value: &Value,
     kind: Kind,
     weak: bool,
-    name: Name,
-    reads: Seq<ReadingPart>,
 ) -> Result<FileComputation, ShapeRefusal>
-    ensures { Gives result (computation_reading (view value.now) kind weak name reads) }
+    ensures { Gives result (computation_with (view value.now) kind weak) }
 {
-    let stream = name_in(alloc, value, "stream")?;
-    let cuts = cuts_in(alloc, value)?;
+    let (name, stream) = names_in(alloc, value)?;
+    let (reads, cuts) = lists_in(alloc, value)?;
     Ok(FileComputation {
         name,
         kind,

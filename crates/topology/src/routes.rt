@@ -1,9 +1,10 @@
 //! Which weak computations a record comes through on its way.
-ghost use Rattle.std.specs.Prelude.{◌≡◌, ◌<◌, length, IfOk};
+ghost use Rattle.std.specs.Prelude.{◌≡◌, ◌<◌, ◌^◌, length, IfOk};
 ghost use Rattle.topology.specs.Kept.{by_part};
-ghost use Rattle.topology.specs.Shapes.{stream_of};
-ghost use Rattle.topology.specs.Folding.{routes_to, route_in};
+ghost use Rattle.topology.specs.Shapes.{parts_of, stream_of};
+ghost use Rattle.topology.specs.Folding.{routes_to, weak_count, route_in};
 
+use crate::parts::{ComputationPart, Parts};
 use crate::strong_parts::StrongPart;
 use crate::topology::Topology;
 use crate::ways::{add_passed, numbers_of};
@@ -11,8 +12,8 @@ use mw_types::{Duplicate, NoMemory, NumberList, Seq};
 use std::alloc::Global;
 use std::marker::Model;
 
-/// What was taken out between the parts of a topology: for each part that stayed, and each consumer that it then
-/// has, the weak computations that its records come through.
+/// What was taken out between the parts of a topology: for each part that stayed, and each consumer
+/// that it then has, the weak computations that its records come through.
 ///
 /// These have numbers of their own, from 0 on as they come in the file, and none among the parts.
 #[derive(Drop)]
@@ -63,27 +64,29 @@ fn list_of_routes(alloc: Global, routes: &[NumberList]) -> Result<Seq<NumberList
 }
 
 impl Routes {
-    // The routes between the parts of this topology, which has these computations, once so many were taken out.
+    // The routes between the parts of this topology, which are those that stay of all these parts.
     pub(crate) fn of<'p>(
         alloc: Global,
         topology: &Topology,
         readers: &[StrongPart<'p>],
-        weaks: u32,
+        all: &Parts,
     ) -> Result<Routes, NoMemory>
+        requires { parts_of all.now < 2 ^ 32 }
         ensures by_part { IfOk result (λ routes. routes.by_part ≡ by_part (λ shape number.
             routes_to readers.now (stream_of shape number)) topology.now) }
-        ensures weaks { IfOk result (λ routes. routes.weaks ≡ weaks) }
+        ensures weaks { IfOk result (λ routes. routes.weaks ≡ weak_count all.now.computations) }
     {
         let by_part = routes_of_parts(alloc, topology, readers)?;
+        let weaks = weak_count(all.computations());
         Ok(Routes { by_part, weaks })
     }
 
-    /// The weak computations that a record comes through, the nearest to its producer first; word of the record
-    /// comes back through the same ones, from the last to the first.
+    /// The weak computations that a record comes through, the nearest to its producer first; word
+    /// of the record comes back through the same ones, from the last to the first.
     ///
-    /// `part` is who sent the record, and `index` stands in its id. A part hands the records of an entry to its
-    /// consumers in turn, so a record's consumer is the one at `index` modulo their number. A part that has none
-    /// has an empty route.
+    /// `part` is who sent the record, and `index` stands in its id. A part hands the records of an
+    /// entry to its consumers in turn, so a record's consumer is the one at `index` modulo their
+    /// number. A part that has none has an empty route.
     pub fn route(&self, part: u32, index: u32) -> &[u32]
         requires part { part < length self.now.by_part }
         ensures route { result.now ≡ route_in self.now part index }
@@ -101,6 +104,14 @@ impl Routes {
     {
         self.weaks
     }
+}
+
+// How many of these computations are weak.
+fn weak_count(all: &[ComputationPart]) -> u32
+    requires { length all.now < 2 ^ 32 }
+    ensures { result ≡ weak_count all.now }
+{
+    all.iter().filter(|one| one.weak()).count() as u32
 }
 
 // For each part, what lies before its consumers.

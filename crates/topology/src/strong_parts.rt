@@ -1,8 +1,9 @@
 //! Which computations stay when the weak ones are taken out, and what each then reads.
 //!
-//! A file's computations are gone through from the last to the first. When a weak one's turn comes, all that may
-//! read its stream has been met, and nothing of what it reads was taken out yet: so each is taken out once.
-ghost use Rattle.std.specs.Prelude.{◌≡◌, ◌≤◌, ◌<◌, ◌+◌, ◌^◌, nat_le, length, map, IfOk};
+//! A file's computations are gone through from the last to the first. When a weak one's turn comes,
+//! all that may read its stream has been met, and nothing of what it reads was taken out yet: so
+//! each is taken out once.
+ghost use Rattle.std.specs.Prelude.{◌≡◌, ◌≤◌, ◌<◌, ◌+◌, ◌^◌, ◌∷◌, nat_le, length, map, IfOk};
 ghost use Rattle.topology.specs.Folding.{Strong, Way, way_count, strong_through, strong_as, strong_from, left_of};
 ghost use Rattle.topology.specs.Ways.{AllRead, number_behind, with_first, unless_many};
 
@@ -76,12 +77,24 @@ fn with_first<'p>(
 ) -> Result<Seq<StrongPart<'p>>, NoMemory>
     ensures { IfOk result (λ parts. parts ≡ with_first number first.now rest.entry) }
 {
-    let mut rest = rest;
     if first.weak() {
-        return all_without(alloc, number, first, rest.as_slice());
+        all_without(alloc, number, first, rest.as_slice())
+    } else {
+        in_front(alloc, first, rest)
     }
-    rest.insert(0, as_stated(alloc, first)?)?;
-    Ok(rest)
+}
+
+// A computation that stays, as the file has it, and behind it what stays of the others.
+fn in_front<'p>(
+    alloc: Global,
+    first: &'p ComputationPart,
+    rest: Seq<StrongPart<'p>>,
+) -> Result<Seq<StrongPart<'p>>, NoMemory>
+    ensures { IfOk result (λ parts. parts ≡ strong_as first.now ∷ rest.entry) }
+{
+    let mut parts = rest;
+    parts.insert(0, as_stated(alloc, first)?)?;
+    Ok(parts)
 }
 
 // The number of the next weak computation behind one.
@@ -120,11 +133,12 @@ fn unless_many<'p>(readers: Seq<StrongPart<'p>>) -> Option<Seq<StrongPart<'p>>>
     None
 }
 
-/// What stays of these computations, where this is the number that their first weak one has; None where that
-/// reads more than 64 streams.
+/// What stays of these computations, where this is the number that their first weak one has; None
+/// where that reads more than 64 streams.
 ///
-/// It gives up as soon as there are so many, or each weak computation might double what the next has to go
-/// through. Nothing is lost by it: as a weak one reads something too, its going never makes readings fewer.
+/// It gives up as soon as there are so many, or each weak computation might double what the next
+/// has to go through. Nothing is lost by it: as a weak one reads something too, its going never
+/// makes readings fewer.
 pub fn strong_from<'p>(
     alloc: Global,
     number: u32,

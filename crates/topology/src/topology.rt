@@ -9,7 +9,6 @@ ghost use Rattle.topology.specs.Rules.{IsTopology, part_cuts_of};
 
 use crate::folding::{Folded, fold_parts};
 use crate::parts::Parts;
-use crate::publishers::streams_in;
 use crate::subscription::Subscription;
 use crate::wiring::{SubscriptionList, wires_in};
 use mw_types::{
@@ -45,8 +44,7 @@ impl Topology {
         requires { IsTopology parts }
         ensures { IfOk result (λ t. t ≡ parts) }
     {
-        let streams = streams_in(alloc, parts.injectors(), parts.computations())?;
-        let (consumers, feeds) = wires_in(alloc, &parts, streams.as_slice())?;
+        let (streams, consumers, feeds) = wires_in(alloc, &parts)?;
         Ok(Topology {
             parts,
             streams,
@@ -117,8 +115,8 @@ impl Topology {
 
     /// The topology without its weak passes, and where these were: what a run works on.
     ///
-    /// Who read a weak pass reads, by its own extractor, what that pass read. The numbers of the parts behind one
-    /// are smaller then. Nothing but want of memory is refused.
+    /// Who read a weak pass reads, by its own extractor, what that pass read. The numbers of the
+    /// parts behind one are smaller then. Nothing but want of memory is refused.
     pub fn fold(&self, alloc: Global) -> Result<Folded, NoMemory>
         ensures topology { IfOk result (λ made. made.topology ≡ folded self.now) }
         ensures routes { IfOk result (λ made. made.routes ≡ routes_in self.now) }

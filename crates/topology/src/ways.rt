@@ -9,7 +9,8 @@ use mw_types::{Duplicate, NoMemory, NumberList, Seq};
 use std::alloc::Global;
 use std::marker::Model;
 
-// A reading, and by their numbers the weak computations that its records come through, in that order.
+// A reading, and by their numbers the weak computations that its records come through, in that
+// order.
 #[derive(Drop)]
 pub struct WayPart {
     reading: ReadingPart,
@@ -57,8 +58,8 @@ impl WayPart {
         self.reading.stream() == stream
     }
 
-    // What it comes through where it is to begin one weak computation further up. That one stands nearer to the
-    // producer than all that it came through so far, hence at the front.
+    // What it comes through where it is to begin one weak computation further up. That one stands
+    // nearer to the producer than all that it came through so far, hence at the front.
     fn passed_from(&self, alloc: Global, number: u32) -> Result<NumberList, NoMemory>
         ensures { IfOk result (λ passed. passed ≡ number ∷ self.now.passed) }
     {
@@ -67,8 +68,8 @@ impl WayPart {
         Ok(passed)
     }
 
-    // The same way from one weak computation further up, at a stream which that reads. It is the reader who
-    // extracts a key: a pass hands records on under the keys that they have.
+    // The same way from one weak computation further up, at a stream which that reads. It is the
+    // reader who extracts a key: a pass hands records on under the keys that they have.
     fn further_up(
         &self,
         alloc: Global,

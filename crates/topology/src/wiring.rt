@@ -7,6 +7,7 @@ ghost use Rattle.topology.specs.Folding.{are_reading};
 ghost use Rattle.topology.specs.Kept.{numbers_from, subscriptions_by, subscriptions_in, by_part};
 
 use crate::parts::{Parts, ReadingPart};
+use crate::publishers::streams_in;
 use crate::subscription::{By, Subscription};
 use mw_types::{Name, NoMemory, NumberList, Seq};
 use std::alloc::Global;
@@ -14,20 +15,20 @@ use std::alloc::Global;
 /// The subscriptions to one stream.
 pub type SubscriptionList = Seq<Subscription>;
 
-/// The subscriptions to the stream of each part, and the parts that each part reads, by number.
+/// Of each part by number its stream, the subscriptions to that, and the parts that it reads.
 pub fn wires_in(
     alloc: Global,
     parts: &Parts,
-    streams: &[Name],
-) -> Result<(Seq<SubscriptionList>, Seq<NumberList>), NoMemory>
-    requires small { parts_of parts.now < 2 ^ 32 }
-    requires published { streams.now ≡ streams_of parts.now }
-    ensures consumers { IfOk result (λ wires. wires.0 ≡ by_part consumers_of parts.now) }
-    ensures feeds { IfOk result (λ wires. wires.1 ≡ by_part feeds_of parts.now) }
+) -> Result<(Seq<Name>, Seq<SubscriptionList>, Seq<NumberList>), NoMemory>
+    requires { parts_of parts.now < 2 ^ 32 }
+    ensures streams { IfOk result (λ wires. wires.0 ≡ streams_of parts.now) }
+    ensures consumers { IfOk result (λ wires. wires.1 ≡ by_part consumers_of parts.now) }
+    ensures feeds { IfOk result (λ wires. wires.2 ≡ by_part feeds_of parts.now) }
 {
-    let consumers = consumers_in(alloc, parts, streams)?;
-    let feeds = feeds_in(alloc, parts, streams)?;
-    Ok((consumers, feeds))
+    let streams = streams_in(alloc, parts.injectors(), parts.computations())?;
+    let consumers = consumers_in(alloc, parts, streams.as_slice())?;
+    let feeds = feeds_in(alloc, parts, streams.as_slice())?;
+    Ok((streams, consumers, feeds))
 }
 
 // The subscriptions to the stream of each part, by number.

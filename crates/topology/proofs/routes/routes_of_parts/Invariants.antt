@@ -6,4 +6,5 @@ use Rattle.topology.proofs.routes.routes_of_parts.Given as goal
 
 -- each part below this number has its routes
 abbrev pub invariant-loop-number : goal.invariant-loop-number
-invariant-loop-number l = l.by_part ≡ map (λ number. routes_to l.readers (stream_of l.topology number)) (range_with_len 0 l.number)
+invariant-loop-number l = l.by_part ≡ map (λ number. routes_to l.readers (stream_of l.topology number))
+    (range_with_len 0 l.number)
