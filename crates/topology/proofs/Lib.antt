@@ -10,4 +10,5 @@ pub mod Lists
 pub mod FoldLaws
 pub mod ReadOrder
 pub mod WhatIsLeft
+pub mod StillRead
 pub mod FewWays

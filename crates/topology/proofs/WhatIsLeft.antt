@@ -143,8 +143,8 @@ some-left =
     still : (gone : ComputationShape) → Reads gone → (c : ComputationShape) → Reads c → Reads (through gone c)
     still gone some c reads =
         let each : (r : Reading) → 1 ≤ length (reading_through gone r) =
-        λ r. some-either (is r.stream gone.stream) (λ (q : Reading). record { stream = q.stream; by = r.by }) gone.reads r
-        some in
+        λ r. some-either (is r.stream gone.stream) (λ (q : Reading). record { stream = q.stream; by = r.by }) gone.reads
+        r some in
         omega (arith, reads, length-flat_map_some (reading_through gone) each c.reads)
 
 -- what is known among some streams is known among others, but for this one
