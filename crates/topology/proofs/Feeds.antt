@@ -6,7 +6,8 @@ use Rattle.std.specs.Ordering.{nat_cmp}
 use Rattle.std.specs.declared.cmp.Ordering.TheVariants.{Less}
 use Rattle.std.proofs.lemmas.Bool.Decides.{nat_tests}
 use Rattle.topology.specs.Shapes.{Shape, feeds_of, streams_of, reads_of}
-use Rattle.topology.specs.Kept.{is_among, numbers_from}
+use Rattle.topology.specs.Folding.{are_reading}
+use Rattle.topology.specs.Kept.{numbers_from}
 
 -- numbers above n are not below it
 all_at_least : (n : ℕ) (ms : List ℕ) → AllByRecursion (λ m. nat_cmp n m ≡ Less) ms → AllByRecursion (λ m. n ≤ m) ms
@@ -42,4 +43,4 @@ ascending test n (x ∷ xs) = ascending_step (test x) n _ (all_above n _ (least 
 
 -- each part that feeds another stands once, in order
 pub feeds_of-ascending : (shape : Shape) (part : ℕ) → IsStrictlySortedBy nat_cmp (feeds_of shape part)
-feeds_of-ascending shape part = ascending (is_among (reads_of shape part)) 0 (streams_of shape)
+feeds_of-ascending shape part = ascending (are_reading (reads_of shape part)) 0 (streams_of shape)

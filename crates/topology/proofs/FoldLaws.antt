@@ -1,57 +1,97 @@
--- What folding leaves, by a recursion in which weak computations have no numbers.
-use Rattle.std.proofs.Common.{◌≡◌, ℕ, suc, Bool, true, false, cond, nat_eq, List, [], ◌∷◌, ◌++◌, map, refl, ◌∙◌, ap}
+-- Which computations stay, and what they read then, where nobody counts what records come through.
+use Rattle.std.proofs.Common.{◌≡◌, ℕ, suc, Bool, true, false, cond, if◌then◌else◌, nat_eq, List, [], ◌∷◌, map, map-id, refl, sym, ◌∙◌, ap}
 use Rattle.std.specs.List.{flat_map}
 use Rattle.std.specs.Cmp.Lexicographic.{pointwise}
-use Rattle.std.proofs.lemmas.List.{map-append}
+use Rattle.std.proofs.lemmas.Bool.{cond_both}
 use Rattle.std.proofs.lemmas.Simd.{map-map}
+use Rattle.std.proofs.lemmas.List.Folds.{flat_map-map}
+use Rattle.list_lemmas.proofs.Numbered.{map-flat_map}
 use Rattle.topology.specs.Shapes.{ComputationShape, Reading}
-use Rattle.topology.specs.Folding.{Way, Strong, way_past, way_through, strong_through, strong_as, strong_from, left_of}
+use Rattle.topology.specs.Folding.{Way, Strong, way_of, way_past, way_through, strong_through, strong_as, strong_from, left_of}
+use Rattle.topology.specs.Ways.{number_behind, with_first}
 
--- a reading of a weak computation's stream is one of each that this reads; another stays
+-- the readings that stand for one when a weak computation is taken out
 abbrev pub reading_through : ComputationShape → Reading → List Reading
-reading_through weak r = cond (pointwise nat_eq r.stream weak.stream)
-    (map (λ (q : Reading). record { stream = q.stream; by = r.by }) weak.reads)
-    (r ∷ [])
+reading_through gone read = if pointwise nat_eq read.stream gone.stream
+    then map (λ (source : Reading). record { stream = source.stream; by = read.by }) gone.reads
+    else read ∷ []
 
--- a computation where each reading of a weak one's stream goes through that
+-- a computation that stays when a weak one is taken out
 abbrev pub through : ComputationShape → ComputationShape → ComputationShape
-through weak c = record c { reads = flat_map (reading_through weak) c.reads }
+through gone reader = record reader { reads = flat_map (reading_through gone) reader.reads }
 
--- the strong computations, each with what it reads when the weak ones are left out
+-- all that stay, once each weak one is taken out
 abbrev pub strong_ones : List ComputationShape → List ComputationShape
 strong_ones [] = []
-strong_ones (c ∷ cs) = cond c.weak (map (through c) (strong_ones cs)) (c ∷ strong_ones cs)
+strong_ones (first ∷ rest) = if first.weak then map (through first) (strong_ones rest) else first ∷ strong_ones rest
 
--- ways through a weak computation are readings through it
-ways-through : (n : ℕ) (weak : ComputationShape) (ways : List Way)
-    → map (λ (w : Way). w.reading) (flat_map (way_through n weak) ways) ≡ flat_map (reading_through weak) (map (λ (w : Way). w.reading) ways)
-ways-through n weak [] = refl
-ways-through n weak (w ∷ ws) =
-    map-append (λ (w : Way). w.reading) (way_through n weak w) (flat_map (way_through n weak) ws)
-    ∙ (λ i. one (pointwise nat_eq w.reading.stream weak.stream) i ++ ways-through n weak ws i)
+-- What holds of computations and of those that stay of them, if it holds of none, is kept where a weak one more is
+-- taken out, and is kept where one more stays.
+pub by_computation : (P : List ComputationShape → List ComputationShape → Type 0) → P [] []
+    → ((gone : ComputationShape) (cs left : List ComputationShape) → gone.weak ≡ true → P cs left
+    → P (gone ∷ cs) (map (through gone) left))
+    → ((stays : ComputationShape) (cs left : List ComputationShape) → stays.weak ≡ false → P cs left
+    → P (stays ∷ cs) (stays ∷ left))
+    → (cs : List ComputationShape) → P cs (strong_ones cs)
+by_computation P none goes stays [] = none
+by_computation P none goes stays (c ∷ cs) =
+    let rest = by_computation P none goes stays cs in
+    cond_both c.weak (map (through c) (strong_ones cs)) (c ∷ strong_ones cs) (P (c ∷ cs))
+    (λ weak. goes c cs (strong_ones cs) weak rest) (λ strong. stays c cs (strong_ones cs) strong rest)
+
+-- ---- with numbers and without
+
+-- one computation more
+pub strong_from-cons : (n : ℕ) (c : ComputationShape) (cs : List ComputationShape)
+    → strong_from n (c ∷ cs) ≡ with_first n c (strong_from (number_behind n c) cs)
+strong_from-cons n c cs = elim c.weak as
+    (λ b. let behind = strong_from (cond b (suc n) n) cs in
+    cond b (map (strong_through n c) (strong_from (suc n) cs)) (strong_as c ∷ strong_from n cs)
+    ≡ cond b (map (strong_through n c) behind) (strong_as c ∷ behind)) [
+      | true ↦ refl
+      | false ↦ refl
+    ]
+
+-- what a way reads
+abbrev pub reading_of : Way → Reading
+reading_of way = way.reading
+
+-- the readings of a computation's ways, where one more is taken out
+readings-through : (n : ℕ) (gone : ComputationShape) (ways : List Way)
+    → map reading_of (flat_map (way_through n gone) ways) ≡ flat_map (reading_through gone) (map reading_of ways)
+readings-through n gone ways =
+    map-flat_map reading_of (way_through n gone) ways
+    ∙ (λ i. flat_map (λ w. of_one w (pointwise nat_eq w.reading.stream gone.stream) i) ways)
+    ∙ sym (flat_map-map (reading_through gone) reading_of ways)
   where
-    one : (b : Bool) → map (λ (w : Way). w.reading) (cond b (map (way_past n w) weak.reads) (w ∷ []))
-        ≡ cond b (map (λ (q : Reading). record { stream = q.stream; by = w.reading.by }) weak.reads) (w.reading ∷ [])
-    one true = map-map (λ (w : Way). w.reading) (way_past n w) weak.reads
-    one false = refl
+    of_one : (w : Way) (b : Bool) → map reading_of (cond b (map (way_past n w) gone.reads) (w ∷ []))
+        ≡ cond b (map (λ (source : Reading). record { stream = source.stream; by = w.reading.by }) gone.reads)
+        (w.reading ∷ [])
+    of_one w true = map-map reading_of (way_past n w) gone.reads
+    of_one w false = refl
 
--- so it is with the ways of all strong ones
-all-through : (n : ℕ) (weak : ComputationShape) (ss : List Strong)
-    → map left_of (map (strong_through n weak) ss) ≡ map (through weak) (map left_of ss)
-all-through n weak [] = refl
-all-through n weak (s ∷ ss) = λ i. record s.computation { reads = ways-through n weak s.ways i } ∷ all-through n weak ss i
+-- so computations that stay are the same with numbers and without
+left-first : (n : ℕ) (c : ComputationShape) (readers : List Strong)
+    → map left_of (with_first n c readers)
+    ≡ cond c.weak (map (through c) (map left_of readers)) (c ∷ map left_of readers)
+left-first n c readers = elim c.weak as
+    (λ b. map left_of (cond b (map (strong_through n c) readers) (strong_as c ∷ readers))
+    ≡ cond b (map (through c) (map left_of readers)) (c ∷ map left_of readers)) [
+      | true ↦
+          map-map left_of (strong_through n c) readers
+          ∙ (λ i. map (λ (s : Strong). record s.computation { reads = readings-through n c s.ways i }) readers)
+          ∙ sym (map-map (through c) left_of readers)
+      | false ↦
+          let own : map reading_of (map way_of c.reads) ≡ c.reads =
+          map-map reading_of way_of c.reads ∙ map-id c.reads in
+          λ i. record c { reads = own i } ∷ map left_of readers
+    ]
 
--- readings that are ways are the same readings
-own-reads : (reads : List Reading) → map (λ (w : Way). w.reading) (map (λ (r : Reading). record { reading = r; passed = [] }) reads) ≡ reads
-own-reads [] = refl
-own-reads (r ∷ rs) = ap (λ l. r ∷ l) (own-reads rs)
-
--- what folding leaves of computations are the strong ones
+-- and so are all of them, whatever the first number is
 pub left-strong : (n : ℕ) (cs : List ComputationShape) → map left_of (strong_from n cs) ≡ strong_ones cs
 left-strong n [] = refl
-left-strong n (c ∷ cs) = elim c.weak as
-    (λ b. map left_of (cond b (map (strong_through n c) (strong_from (suc n) cs)) (strong_as c ∷ strong_from n cs))
-    ≡ cond b (map (through c) (strong_ones cs)) (c ∷ strong_ones cs)) [
-      | true ↦ all-through n c (strong_from (suc n) cs) ∙ ap (map (through c)) (left-strong (suc n) cs)
-      | false ↦ λ i. record c { reads = own-reads c.reads i } ∷ left-strong n cs i
-    ]
+left-strong n (c ∷ cs) =
+    let later = number_behind n c in
+    ap (map left_of) (strong_from-cons n c cs)
+    ∙ left-first n c (strong_from later cs)
+    ∙ ap (λ l. cond c.weak (map (through c) l) (c ∷ l)) (left-strong later cs)

@@ -6,13 +6,14 @@ use Rattle.serde_json.specs.Data.{Data, Items, no_items, item}
 use Rattle.mw_types.specs.declared.kind.Kind.{Kind}
 use Rattle.mw_types.specs.declared.kind.Kind.TheVariants.{Count, Spike, Pass}
 use Rattle.topology.specs.Shapes.{Shape, InjectorShape, ComputationShape, Reading}
-use Rattle.topology.specs.Grammar.{and_then, has_members, each_of, array_in, list_in, injector_in, some_of, text_in, reading_in, kind_in, reads_in, cuts_in, weak_in, members_of, computation_in, injectors_in, shape_in, computation_of_kind}
+use Rattle.topology.specs.Grammar.{and_then, has_members, each_of, array_in, list_in, injector_in, some_of, reading_in, kind_in, reads_in, cuts_in, weakness_in, members_of, names_in, lists_in, computation_with, computation_in, injectors_in, shape_in, computation_of_kind}
 use Rattle.topology.specs.Rules.{IsPassWhereWeak}
 use Rattle.topology.specs.Answers.{IsFull}
 use Rattle.list_lemmas.proofs.Lists.{some_same}
 
 -- what two steps give, the first gave something for
-and_then-some : {A B : Type 0} (o : Option A) (f : A → Option B) (y : B) → and_then o f ≡ Some y → (x : A) × (o ≡ Some x) × (f x ≡ Some y)
+and_then-some : {A B : Type 0} (o : Option A) (f : A → Option B) (y : B) → and_then o f ≡ Some y
+    → (x : A) × (o ≡ Some x) × (f x ≡ Some y)
 and_then-some None f y e = absurd (none-some y e)
 and_then-some (Some x) f y e = (x, refl, e)
 
@@ -41,50 +42,43 @@ each_of-all form P holds (item value rest) xs e =
     at_some (All P) (first.0 ∷ others.0) xs others.2
     (All-cons P first.0 others.0 (holds value first.0 first.1) (each_of-all form P holds rest others.0 others.1))
 
--- a computation has the kind, the readings and the weakness that were found
-all_stated : (kind : Kind) (w : Option Bool) (n : Option (List ℕ)) (r : Option (List Reading)) (s : Option (List ℕ))
-    (k : Option (List (List ℕ))) (c : ComputationShape)
-    → and_then w (λ weak. and_then n (λ name. and_then r (λ reads. and_then s (λ stream. and_then k (λ cuts.
-    Some (record { name = name; kind = kind; reads = reads; stream = stream; cuts = cuts; weak = weak })))))) ≡ Some c
-    → (r ≡ Some c.reads) × (w ≡ Some c.weak) × (kind ≡ c.kind)
-all_stated kind None n r s k c e = absurd (none-some c e)
-all_stated kind (Some w) None r s k c e = absurd (none-some c e)
-all_stated kind (Some w) (Some n) None s k c e = absurd (none-some c e)
-all_stated kind (Some w) (Some n) (Some r) None k c e = absurd (none-some c e)
-all_stated kind (Some w) (Some n) (Some r) (Some s) None c e = absurd (none-some c e)
-all_stated kind (Some w) (Some n) (Some r) (Some s) (Some k) c e =
-    at_some (λ (c : ComputationShape). (Some r ≡ Some c.reads) × (Some w ≡ Some c.weak) × (kind ≡ c.kind)) _ c e (refl, refl, refl)
-
--- so it has what its value states
-computation_in-stated : (value : Data) (c : ComputationShape) → computation_in value ≡ Some c
-    → (reads_in value ≡ Some c.reads) × (weak_in c.kind value ≡ Some c.weak)
-computation_in-stated value c e =
+-- a computation is as weak as its value says, and has the readings that this states
+computation_in-as_stated : (value : Data) (c : ComputationShape) → computation_in value ≡ Some c
+    → (weakness_in c.kind value ≡ Some c.weak) × (reads_in value ≡ Some c.reads)
+computation_in-as_stated value c e =
     let kind = and_then-some (kind_in value) (computation_of_kind value) c e in
-    let stated = all_stated kind.0 (weak_in kind.0 value) (text_in (codes "name") value) (reads_in value)
-    (text_in (codes "stream") value) (cuts_in value) c
-    (if-some (has_members (members_of kind.0 value) value) _ c kind.2) in
-    (stated.0, ap (λ k. weak_in k value) (sym stated.2) ∙ stated.1)
+    let members = if-some (has_members (members_of kind.0 value) value) _ c kind.2 in
+    let weak = and_then-some (weakness_in kind.0 value) (computation_with value kind.0) c members in
+    let names = and_then-some (names_in value) _ c weak.2 in
+    let lists = and_then-some (lists_in value) _ c names.2 in
+    let reads = and_then-some (reads_in value) _ lists.0 lists.1 in
+    let cuts = and_then-some (cuts_in value) _ lists.0 reads.2 in
+    let first : reads_in value ≡ Some lists.0.0 =
+    at_some (λ (p : List Reading × List (List ℕ)). reads_in value ≡ Some p.0) _ lists.0 cuts.2 reads.1 in
+    at_some (λ (d : ComputationShape). (weakness_in d.kind value ≡ Some d.weak) × (reads_in value ≡ Some d.reads)) _ c
+    lists.2 (weak.1, first)
 
 -- a computation reads something
 computation_in-reads : (value : Data) (c : ComputationShape) → computation_in value ≡ Some c → 1 ≤ length c.reads
 computation_in-reads value c e =
     let reads = list_in reading_in (codes "reads") value in
-    let listed = and_then-some reads some_of c.reads (computation_in-stated value c e).0 in
+    let listed = and_then-some reads some_of c.reads (computation_in-as_stated value c e).1 in
     some_of-some listed.0 c.reads listed.2
 
--- a kind that may be weak is that of a pass
-weak-pass : (kind : Kind) (value : Data) → weak_in kind value ≡ Some true → kind ≡ Pass
-weak-pass (Count size) value e = absurd (true≢false (sym (some_same false true e)))
-weak-pass (Spike last times) value e = absurd (true≢false (sym (some_same false true e)))
-weak-pass Pass value e = refl
+-- nothing but a pass says that it is weak
+only-passes : (kind : Kind) (value : Data) → weakness_in kind value ≡ Some true → kind ≡ Pass
+only-passes Pass value e = refl
+only-passes (Count size) value e = absurd (true≢false (sym (some_same false true e)))
+only-passes (Spike last times) value e = absurd (true≢false (sym (some_same false true e)))
 
--- so a weak computation is a pass
-computation_in-pass : (value : Data) (c : ComputationShape) → computation_in value ≡ Some c → c.weak ≡ true → c.kind ≡ Pass
-computation_in-pass value c e weak = weak-pass c.kind value ((computation_in-stated value c e).1 ∙ ap Some weak)
+-- so what is weak is a pass
+computation_in-weak : (value : Data) (c : ComputationShape) → computation_in value ≡ Some c → IsPassWhereWeak c
+computation_in-weak value c e weak = only-passes c.kind value ((computation_in-as_stated value c e).0 ∙ ap Some weak)
 
 -- the parts of a shape are those that were found
 parts_stated : (i : Option (List InjectorShape)) (cs : Option (List ComputationShape)) (shape : Shape)
-    → and_then i (λ injectors. and_then cs (λ computations. Some (record { injectors = injectors; computations = computations }))) ≡ Some shape
+    → and_then i (λ injectors. and_then cs (λ computations.
+    Some (record { injectors = injectors; computations = computations }))) ≡ Some shape
     → (i ≡ Some shape.injectors) × (cs ≡ Some shape.computations)
 parts_stated None cs shape e = absurd (none-some shape e)
 parts_stated (Some i) None shape e = absurd (none-some shape e)
@@ -98,9 +92,11 @@ full_shape value shape e =
     let computations = list_in computation_in (codes "computations") value in
     let stated = parts_stated (injectors_in value) computations shape (if-some (has_members 2 value) _ shape e) in
     let first = and_then-some injectors some_of shape.injectors stated.0 in
-    let listed = and_then-some (array_in (codes "computations") value) (each_of computation_in) shape.computations stated.1 in
+    let listed =
+    and_then-some (array_in (codes "computations") value) (each_of computation_in) shape.computations stated.1 in
     record {
       some_injector = some_of-some first.0 shape.injectors first.2;
-      reading = each_of-all computation_in (λ (c : ComputationShape). 1 ≤ length c.reads) computation_in-reads listed.0 shape.computations listed.2;
-      passes = each_of-all computation_in IsPassWhereWeak computation_in-pass listed.0 shape.computations listed.2;
+      reading = each_of-all computation_in (λ (c : ComputationShape). 1 ≤ length c.reads) computation_in-reads listed.0
+          shape.computations listed.2;
+      passes = each_of-all computation_in IsPassWhereWeak computation_in-weak listed.0 shape.computations listed.2;
     }

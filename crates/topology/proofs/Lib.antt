@@ -6,7 +6,9 @@ pub mod Texts
 pub mod RulesHold
 pub mod Stating
 pub mod Forms
+pub mod Lists
 pub mod FoldLaws
 pub mod ReadOrder
 pub mod WhatIsLeft
+pub mod StillRead
 pub mod FewWays

@@ -1,159 +1,145 @@
--- Computations of which each reads only what stands before it, and where no stream is published twice.
-use Rattle.std.proofs.Common.{◌≡◌, ℕ, Bool, true, false, not, ◌&&◌, ◌||◌, nat_eq, List, [], ◌∷◌, ◌++◌, map, true≢false, refl, sym, ◌∙◌, ap, subst, append_assoc}
+-- Where streams differ and each computation reads only what is published before it, none publishes what one before it
+-- reads or publishes.
+use Rattle.std.proofs.Common.{◌≡◌, ℕ, Bool, true, false, not, ◌||◌, nat_eq, List, [], ◌∷◌, ◌++◌, map, true≢false, inl, inr, refl, sym, ◌∙◌, subst, append_assoc}
 use Rattle.std.specs.List.{list_any, AllByRecursion}
 use Rattle.std.specs.Cmp.Lexicographic.{pointwise, bytes_decides}
-use Rattle.std.proofs.lemmas.Bool.{and_parts, or_parts, or_left, not-true}
+use Rattle.std.proofs.lemmas.Bool.{both_ways, false_from_ne_true, and_parts, and_from, or_parts, or_cases, or_left, or_right, not-true, not_from_false}
 use Rattle.std.proofs.lemmas.List.Folds.{list_any-append}
+use Rattle.list_lemmas.proofs.Lists.{each-weaker, each-both}
 use Rattle.topology.specs.Shapes.{ComputationShape, Reading}
 use Rattle.topology.specs.Rules.{all_differ}
 use Rattle.topology.specs.FileRules.{reads_among}
-use Rattle.list_lemmas.proofs.Tests.{or_true}
-use Rattle.list_lemmas.proofs.Lists.{each-weaker}
+use Rattle.topology.proofs.Lists.{each-passes, each-turned}
 
--- whether a text is this one
+-- the test by which streams are told apart
 abbrev pub is : List ℕ → List ℕ → Bool
-is a b = pointwise nat_eq a b
+is one other = pointwise nat_eq one other
 
--- a later computation publishes neither the stream of this one nor what this one reads
+-- what a computation behind another publishes is new to that one, which neither publishes nor reads it
 abbrev pub IsApart : ComputationShape → ComputationShape → Type 0
-IsApart c later = (is c.stream later.stream ≡ false) × AllByRecursion (λ (r : Reading). is r.stream later.stream ≡ false) c.reads
+IsApart c behind =
+    (is c.stream behind.stream ≡ false) × AllByRecursion (λ (r : Reading). is r.stream behind.stream ≡ false) c.reads
 
--- each of these is apart from all behind it
+-- so it is with any two of these
 abbrev pub AreApart : List ComputationShape → Type 0
 AreApart [] = Unit {0}
 AreApart (c ∷ cs) = AllByRecursion (IsApart c) cs × AreApart cs
 
--- what these publish
+-- the streams of computations, in their order
 abbrev pub streams_by : List ComputationShape → List (List ℕ)
 streams_by cs = map (λ (c : ComputationShape). c.stream) cs
 
--- each of these reads only what stands before it, which begins with these streams
+-- the first of these reads among known streams, and each other one among these and what those before it publish
 abbrev pub ReadBefore : List (List ℕ) → List ComputationShape → Type 0
-ReadBefore names [] = Unit {0}
-ReadBefore names (c ∷ cs) = (reads_among names c.reads ≡ true) × ReadBefore (names ++ c.stream ∷ []) cs
+ReadBefore known [] = Unit {0}
+ReadBefore known (c ∷ cs) = (reads_among known c.reads ≡ true) × ReadBefore (known ++ c.stream ∷ []) cs
 
--- ---- texts
+-- ---- one stream and another
 
--- a text is itself
-pub is-itself : (a : List ℕ) → is a a ≡ true
-is-itself a = (bytes_decides a a).1 refl
+-- each stream is the same as itself
+pub is-itself : (s : List ℕ) → is s s ≡ true
+is-itself s = (bytes_decides s s).1 refl
 
--- where a text is not another, the other is not it
-pub is-other : (a b : List ℕ) → is a b ≡ false → is b a ≡ false
-is-other a b e = by (is b a) refl
-  where
-    by : (t : Bool) → is b a ≡ t → t ≡ false
-    by true same = absurd (true≢false (sym (subst (λ x. is x b ≡ true) ((bytes_decides b a).0 same) (is-itself b)) ∙ e))
-    by false other = refl
+-- and other than those that are other than it
+pub is-other : (s t : List ℕ) → is s t ≡ false → is t s ≡ false
+is-other s t other =
+    false_from_ne_true (is t s)
+    (λ same. both_ways (is s t) other ((bytes_decides s t).1 (sym ((bytes_decides t s).0 same))))
 
--- a text of a list is in that list with more behind it
-pub any-more : (s : List ℕ) (xs ys : List (List ℕ)) → list_any (is s) xs ≡ true → list_any (is s) (xs ++ ys) ≡ true
-any-more s xs ys e = list_any-append (is s) xs ys ∙ or_left (list_any (is s) xs) (list_any (is s) ys) e
+-- what is known stays known where more is
+pub any-more : (s : List ℕ) (known more : List (List ℕ)) → list_any (is s) known ≡ true
+    → list_any (is s) (known ++ more) ≡ true
+any-more s known more there = list_any-append (is s) known more
+    ∙ or_left (list_any (is s) known) (list_any (is s) more) there
 
--- ---- texts that differ
+-- what holds of each known stream holds of one that is among them
+among-each : (P : List ℕ → Type 0) (s : List ℕ) (known : List (List ℕ)) → AllByRecursion P known
+    → list_any (is s) known ≡ true → P s
+among-each P s [] each there = absurd (true≢false (sym there))
+among-each P s (x ∷ known) each there = elim (or_cases (is s x) (list_any (is s) known) there) [
+  | inl here ↦ subst P (sym ((bytes_decides s x).0 here)) each.0
+  | inr later ↦ among-each P s known each.1 later
+]
 
--- where all of two lists differ, what is in the first is not in the second
-pub differ-apart : (xs ys : List (List ℕ)) → all_differ (xs ++ ys) ≡ true → (s : List ℕ) → list_any (is s) xs ≡ true → list_any (is s) ys ≡ false
-differ-apart [] ys e s among = absurd (true≢false (sym among))
-differ-apart (x ∷ xs) ys e s among =
-    let both = and_parts (not (list_any (is x) (xs ++ ys))) (all_differ (xs ++ ys)) e in
-    by both.0 (differ-apart xs ys both.1 s) (is s x) refl
-  where
-    by : not (list_any (is x) (xs ++ ys)) ≡ true → (list_any (is s) xs ≡ true → list_any (is s) ys ≡ false)
-        → (b : Bool) → is s x ≡ b → list_any (is s) ys ≡ false
-    by first rest true same =
-        let none = sym (list_any-append (is x) xs ys) ∙ not-true (list_any (is x) (xs ++ ys)) first in
-        subst (λ t. list_any (is t) ys ≡ false) (sym ((bytes_decides s x).0 same))
-        (or_parts (list_any (is x) xs) (list_any (is x) ys) none).1
-    by first rest false other = rest (ap (λ b. b || list_any (is s) xs) (sym other) ∙ among)
+-- ---- streams that differ
 
--- those of the second differ
-pub differ-behind : (xs ys : List (List ℕ)) → all_differ (xs ++ ys) ≡ true → all_differ ys ≡ true
-differ-behind [] ys e = e
-differ-behind (x ∷ xs) ys e = differ-behind xs ys (and_parts (not (list_any (is x) (xs ++ ys))) (all_differ (xs ++ ys)) e).1
+-- where all of two lists differ, those of each do, and none of the one is in the other
+differ-all : (xs ys : List (List ℕ)) → all_differ (xs ++ ys) ≡ true
+    → (all_differ xs ≡ true) × (all_differ ys ≡ true) × AllByRecursion (λ x. list_any (is x) ys ≡ false) xs
+differ-all [] ys differ = (refl, differ, tt)
+differ-all (x ∷ xs) ys differ =
+    let both = and_parts (not (list_any (is x) (xs ++ ys))) (all_differ (xs ++ ys)) differ in
+    let apart = sym (list_any-append (is x) xs ys) ∙ not-true (list_any (is x) (xs ++ ys)) both.0 in
+    let neither = or_parts (list_any (is x) xs) (list_any (is x) ys) apart in
+    let rest = differ-all xs ys both.1 in (
+      and_from (not (list_any (is x) xs)) (all_differ xs)
+          (not_from_false (list_any (is x) xs) neither.0) rest.0,
+      rest.1,
+      (neither.1, rest.2),
+    )
 
--- those of the first differ
+-- those of the first do
 pub differ-before : (xs ys : List (List ℕ)) → all_differ (xs ++ ys) ≡ true → all_differ xs ≡ true
-differ-before [] ys e = refl
-differ-before (x ∷ xs) ys e =
-    let both = and_parts (not (list_any (is x) (xs ++ ys))) (all_differ (xs ++ ys)) e in
-    let none = or_parts (list_any (is x) xs) (list_any (is x) ys)
-    (sym (list_any-append (is x) xs ys) ∙ not-true (list_any (is x) (xs ++ ys)) both.0) in
-    λ i. not (none.0 i) && differ-before xs ys both.1 i
+differ-before xs ys differ = (differ-all xs ys differ).0
 
--- ---- computations behind one
+-- and those of the second
+pub differ-behind : (xs ys : List (List ℕ)) → all_differ (xs ++ ys) ≡ true → all_differ ys ≡ true
+differ-behind xs ys differ = (differ-all xs ys differ).1
 
--- the streams before and those of computations, where the first of these is counted before
-pub names-next : (names : List (List ℕ)) (c : ComputationShape) (cs : List ComputationShape)
-    → names ++ streams_by (c ∷ cs) ≡ (names ++ c.stream ∷ []) ++ streams_by cs
-names-next names c cs = sym (append_assoc names (c.stream ∷ []) (streams_by cs))
+-- of the first none is in the second
+pub differ-each : (xs ys : List (List ℕ)) → all_differ (xs ++ ys) ≡ true
+    → AllByRecursion (λ x. list_any (is x) ys ≡ false) xs
+differ-each xs ys differ = (differ-all xs ys differ).2
 
--- a stream that is not among what these publish is that of none
+-- and so it is with whatever is among the first
+pub differ-apart : (xs ys : List (List ℕ)) → all_differ (xs ++ ys) ≡ true → (s : List ℕ) → list_any (is s) xs ≡ true
+    → list_any (is s) ys ≡ false
+differ-apart xs ys differ s there = among-each (λ x. list_any (is x) ys ≡ false) s xs (differ-each xs ys differ) there
+
+-- ---- computations behind others
+
+-- what a computation publishes is known to those behind it
+pub names-next : (known : List (List ℕ)) (c : ComputationShape) (cs : List ComputationShape)
+    → known ++ streams_by (c ∷ cs) ≡ (known ++ c.stream ∷ []) ++ streams_by cs
+names-next known c cs = sym (append_assoc known (c.stream ∷ []) (streams_by cs))
+
+-- where a stream is not among those of computations, none of them publishes it
 pub none-publishes : (s : List ℕ) (cs : List ComputationShape) → list_any (is s) (streams_by cs) ≡ false
     → AllByRecursion (λ (c : ComputationShape). is s c.stream ≡ false) cs
-none-publishes s [] e = tt
-none-publishes s (c ∷ cs) e =
-    let both = or_parts (is s c.stream) (list_any (is s) (streams_by cs)) e in
-    (both.0, none-publishes s cs both.1)
+none-publishes s [] none = tt
+none-publishes s (c ∷ cs) none =
+    let neither = or_parts (is s c.stream) (list_any (is s) (streams_by cs)) none in
+    (neither.0, none-publishes s cs neither.1)
 
--- each reading is of one of these names
-each-among : (names : List (List ℕ)) (rs : List Reading) → reads_among names rs ≡ true
-    → AllByRecursion (λ (r : Reading). list_any (is r.stream) names ≡ true) rs
-each-among names [] e = tt
-each-among names (r ∷ rs) e =
-    let both = and_parts (list_any (is r.stream) names) (reads_among names rs) e in
-    (both.0, each-among names rs both.1)
-
--- a computation is apart from those that publish what stands behind it
-behind-apart : (c : ComputationShape) (names later : List (List ℕ))
-    → all_differ ((names ++ c.stream ∷ []) ++ later) ≡ true → AllByRecursion (λ (r : Reading). list_any (is r.stream) names ≡ true) c.reads
-    → (ds : List ComputationShape) → AllByRecursion (λ (d : ComputationShape). list_any (is d.stream) later ≡ true) ds
-    → AllByRecursion (IsApart c) ds
-behind-apart c names later differ among [] each = tt
-behind-apart c names later differ among (d ∷ ds) each = (
-  (
-    apart c.stream own,
-    each-weaker (λ (r : Reading). list_any (is r.stream) names ≡ true) (λ (r : Reading). is r.stream d.stream ≡ false)
-        (λ r e. apart r.stream (any-more r.stream names (c.stream ∷ []) e)) c.reads among,
-  ),
-  behind-apart c names later differ among ds each.1,
-)
-  where
-    own : list_any (is c.stream) (names ++ c.stream ∷ []) ≡ true
-    own =
-        list_any-append (is c.stream) names (c.stream ∷ [])
-        ∙ ap (λ b. list_any (is c.stream) names || (b || false)) (is-itself c.stream)
-        ∙ or_true (list_any (is c.stream) names)
-
-    apart : (s : List ℕ) → list_any (is s) (names ++ c.stream ∷ []) ≡ true → is s d.stream ≡ false
-    apart s e = by (is s d.stream) refl
-      where
-        by : (b : Bool) → is s d.stream ≡ b → b ≡ false
-        by true same = absurd (true≢false (sym each.0
-            ∙ ap (λ t. list_any (is t) later) (sym ((bytes_decides s d.stream).0 same))
-            ∙ differ-apart (names ++ c.stream ∷ []) later differ s e))
-        by false other = refl
-
--- what each publishes is among what all publish
-own-streams : (before cs : List ComputationShape)
-    → AllByRecursion (λ (d : ComputationShape). list_any (is d.stream) (streams_by (before ++ cs)) ≡ true) cs
-own-streams before [] = tt
-own-streams before (c ∷ cs) = (
-  here before,
-  subst (λ l. AllByRecursion (λ (d : ComputationShape). list_any (is d.stream) (streams_by l) ≡ true) cs) (append_assoc before (c ∷ []) cs)
-      (own-streams (before ++ c ∷ []) cs),
-)
-  where
-    here : (bs : List ComputationShape) → list_any (is c.stream) (streams_by (bs ++ c ∷ cs)) ≡ true
-    here [] = ap (λ b. b || list_any (is c.stream) (streams_by cs)) (is-itself c.stream)
-    here (b ∷ bs) = ap (λ t. is c.stream b.stream || t) (here bs) ∙ or_true (is c.stream b.stream)
-
--- where each reads only what stands before it and all streams differ, each is apart from all behind it
-pub read-apart : (names : List (List ℕ)) (cs : List ComputationShape) → all_differ (names ++ streams_by cs) ≡ true → ReadBefore names cs
+-- computations that read what is known are apart from all behind them
+pub read-apart : (known : List (List ℕ)) (cs : List ComputationShape) → all_differ (known ++ streams_by cs) ≡ true
+    → ReadBefore known cs
     → AreApart cs
-read-apart names [] differ reads = tt
-read-apart names (c ∷ cs) differ reads =
-    let next = subst (λ l. all_differ l ≡ true) (names-next names c cs) differ in (
-      behind-apart c names (streams_by cs) next (each-among names c.reads reads.0) cs (own-streams [] cs),
-      read-apart (names ++ c.stream ∷ []) cs next reads.1,
-    )
+read-apart known [] differ reads = tt
+read-apart known (c ∷ cs) differ reads = (
+  each-both (λ (d : ComputationShape). is c.stream d.stream ≡ false)
+      (λ (d : ComputationShape). AllByRecursion (λ (read : Reading). is read.stream d.stream ≡ false) c.reads) cs
+      (unlike c.stream own)
+      (each-turned (λ (read : Reading) (d : ComputationShape). is read.stream d.stream ≡ false) c.reads cs each),
+  read-apart (known ++ c.stream ∷ []) cs next reads.1,
+)
+  where
+    next : all_differ ((known ++ c.stream ∷ []) ++ streams_by cs) ≡ true
+    next = subst (λ l. all_differ l ≡ true) (names-next known c cs) differ
+
+    -- what is known to those behind is published by none of them
+    unlike : (s : List ℕ) → list_any (is s) (known ++ c.stream ∷ []) ≡ true
+        → AllByRecursion (λ (d : ComputationShape). is s d.stream ≡ false) cs
+    unlike s there = none-publishes s cs (differ-apart (known ++ c.stream ∷ []) (streams_by cs) next s there)
+
+    own : list_any (is c.stream) (known ++ c.stream ∷ []) ≡ true
+    own = list_any-append (is c.stream) known (c.stream ∷ [])
+        ∙ or_right (list_any (is c.stream) known) (is c.stream c.stream || false)
+        (or_left (is c.stream c.stream) false (is-itself c.stream))
+
+    each : AllByRecursion (λ (read : Reading).
+        AllByRecursion (λ (d : ComputationShape). is read.stream d.stream ≡ false) cs) c.reads
+    each = each-weaker (λ (read : Reading). list_any (is read.stream) known ≡ true)
+        (λ (read : Reading). AllByRecursion (λ (d : ComputationShape). is read.stream d.stream ≡ false) cs)
+        (λ read there. unlike read.stream (any-more read.stream known (c.stream ∷ []) there)) c.reads
+        (each-passes (λ (read : Reading). list_any (is read.stream) known) c.reads reads.0)

@@ -71,7 +71,7 @@ for_part true c P all = All-nil P
 for_part false c P all = all refl
 
 -- each part reads only what parts before it publish
-reads_above-above : (shape : Shape) → reads_above shape ≡ true
+pub reads_above-above : (shape : Shape) → reads_above shape ≡ true
     → (part : ℕ) → All (λ (r : Reading). Contains (take part (streams_of shape)) r.stream) (reads_of shape part)
 reads_above-above shape e part =
     let first = injectors_of shape in

@@ -70,9 +70,9 @@ has_cuts shape = list_all (λ (c : ComputationShape). are_cuts c.cuts) shape.com
 abbrev pub where_holds : Bool → TopologyRefusal → Result Shape TopologyRefusal → Result Shape TopologyRefusal
 where_holds holds refusal next = if holds then next else Err refusal
 
--- the shape, where its weak computations may be left out
-abbrev pub woven : Shape → Result Shape TopologyRefusal
-woven shape = where_holds (is_foldable shape) BadWeak (Ok shape)
+-- the last rule: a topology, unless its weak computations can't be taken out
+abbrev pub where_foldable : Shape → Result Shape TopologyRefusal
+where_foldable shape = where_holds (is_foldable shape) BadWeak (Ok shape)
 
 -- the shape, where it keeps the rules, or the first that it breaks
 abbrev pub checked : Shape → Result Shape TopologyRefusal
@@ -83,7 +83,7 @@ checked shape =
     (where_holds (all_differ (streams_of shape)) DoubleStream
     (where_holds (reads_above shape) UnknownStream
     (where_holds (is_in_range shape) BadNumber
-    (where_holds (has_cuts shape) BadCuts (woven shape)))))))
+    (where_holds (has_cuts shape) BadCuts (where_foldable shape)))))))
 
 -- the topology that a JSON value states, or the first rule that it breaks
 abbrev pub topology_at : Data → Result Shape TopologyRefusal

@@ -1,125 +1,121 @@
--- What a topology is without its weak computations, and which of these a record passes on its way. Own.
--- A reading of a weak computation's stream stands for readings of what that computation reads: they come in
--- its place, in their order, and keep its extractor. Weak computations have numbers of their own, from 0, in
--- the order of the file.
+-- How a topology is freed of its weak computations, and which of them a record still comes through. Own.
+-- Whoever reads the stream of a weak computation reads instead, at that place and by its own extractor, each
+-- stream that the weak one reads, one after the other. The last weak one in the file is taken out first: what its
+-- readers then read may again be a weak stream, which goes in its turn. Weak computations are counted apart from
+-- the parts, from 0 on, as they come in the file.
 use Rattle.std.specs.Prelude.{ℕ, suc, ◌%◌, ◌&&◌, ◌||◌, not, nat_le, nat_eq, Bool, if◌then◌else◌, List, [], ◌∷◌, length, map, filter, sum_by, slice_get, unwrap_or, count_by}
 use Rattle.std.specs.List.{list_any, list_all, flat_map, range_with_len}
 use Rattle.std.specs.Cmp.Lexicographic.{pointwise}
 use Rattle.topology.specs.Shapes.{Shape, ComputationShape, Reading, parts_of, stream_of}
 
--- ---- ways
+-- ---- what a reading becomes
 
--- a reading that is left, and the weak computations that its records pass, by their numbers, from the
--- producer on
+-- a reading, and the weak computations that its records come through on their way to it, in that order
 pub record Way : Type 0 where
   pub reading : Reading
   pub passed : List ℕ
 
--- a strong computation, with its ways in the place of its readings
+-- a computation that stays, and what has become of its readings, in their order
 pub record Strong : Type 0 where
   pub computation : ComputationShape
   pub ways : List Way
 
--- the way of a reading that passes nothing
+-- a reading as the file has it, to which records come straight
 abbrev pub way_of : Reading → Way
-way_of reading = record { reading = reading; passed = [] }
+way_of stated = record { reading = stated; passed = [] }
 
--- a way through the weak computation of this number, which reads this: the extractor stays
+-- a way that begins one weak computation further up, at a stream which this one reads
 abbrev pub way_past : ℕ → Way → Reading → Way
-way_past number way read = record {
-  reading = record { stream = read.stream; by = way.reading.by };
+way_past number way source = record {
+  reading = record way.reading { stream = source.stream };
   passed = number ∷ way.passed;
 }
 
--- a way to the stream of a weak computation goes through that, to each stream that it reads; another stays
+-- the ways that stand for one when a weak computation is taken out: only a way from its stream is replaced
 abbrev pub way_through : ℕ → ComputationShape → Way → List Way
-way_through number weak way = if pointwise nat_eq way.reading.stream weak.stream
-    then map (way_past number way) weak.reads
-    else way ∷ []
+way_through number gone way =
+    if pointwise nat_eq way.reading.stream gone.stream then map (way_past number way) gone.reads else way ∷ []
 
--- a strong computation, where each of its ways to a weak one's stream goes through that
+-- so it is with all ways of a computation
 abbrev pub strong_through : ℕ → ComputationShape → Strong → Strong
-strong_through number weak strong = record strong { ways = flat_map (way_through number weak) strong.ways }
+strong_through number gone reader = record reader { ways = flat_map (way_through number gone) reader.ways }
 
--- a strong computation, of which each reading is a way
+-- a computation that stays, before anything is taken out
 abbrev pub strong_as : ComputationShape → Strong
-strong_as c = record { computation = c; ways = map way_of c.reads }
+strong_as stated = record { computation = stated; ways = map way_of stated.reads }
 
--- the strong ones of these computations, where the first weak one has number n
+-- what stays of these computations, where this is the number that their first weak one has
 abbrev pub strong_from : ℕ → List ComputationShape → List Strong
-strong_from n [] = []
-strong_from n (c ∷ cs) = if c.weak
-    then map (strong_through n c) (strong_from (suc n) cs)
-    else strong_as c ∷ strong_from n cs
+strong_from number [] = []
+strong_from number (first ∷ rest) = if first.weak
+    then map (strong_through number first) (strong_from (suc number) rest)
+    else strong_as first ∷ strong_from number rest
 
--- ---- what is left
+-- ---- the topology without them
 
--- a strong computation as it stands when the weak ones are left out
+-- a computation that stays, with the readings that it has in the end
 abbrev pub left_of : Strong → ComputationShape
-left_of strong = record strong.computation { reads = map (λ (w : Way). w.reading) strong.ways }
+left_of reader = record reader.computation { reads = map (λ (way : Way). way.reading) reader.ways }
 
--- a topology without its weak computations
+-- the same injectors, and the computations that stay
 abbrev pub folded : Shape → Shape
 folded shape = record shape { computations = map left_of (strong_from 0 shape.computations) }
 
--- ---- which topologies may be folded
+-- ---- where this may be done
 
--- how many ways these computations have
+-- how many readings there are in the end
 abbrev pub way_count : List Strong → ℕ
-way_count strong = sum_by (λ (s : Strong). length s.ways) strong
+way_count readers = sum_by (λ (reader : Strong). length reader.ways) readers
 
--- whether a stream is among those that are read here
+-- one of these readings is of this stream
 abbrev pub are_reading : List Reading → List ℕ → Bool
-are_reading reads stream = list_any (λ (r : Reading). pointwise nat_eq r.stream stream) reads
+are_reading reads stream = list_any (λ (read : Reading). pointwise nat_eq read.stream stream) reads
 
--- whether a computation of these reads a stream
+-- one of these computations reads this stream
 abbrev pub is_read : List ComputationShape → List ℕ → Bool
-is_read computations stream = list_any (λ (c : ComputationShape). are_reading c.reads stream) computations
+is_read readers stream = list_any (λ (reader : ComputationShape). are_reading reader.reads stream) readers
 
--- whether what each weak computation publishes is read
+-- none of them is weak but that one of them reads its stream
 abbrev pub are_weak_read : List ComputationShape → Bool
-are_weak_read computations =
-    list_all (λ (c : ComputationShape). not c.weak || is_read computations c.stream) computations
+are_weak_read all = list_all (λ (one : ComputationShape). not one.weak || is_read all one.stream) all
 
--- whether what each weak computation publishes is read, and at most 64 readings are left without them
+-- no weak computation is without a reader, and in the end there are no more than 64 readings
 abbrev pub is_foldable : Shape → Bool
 is_foldable shape = are_weak_read shape.computations && nat_le (way_count (strong_from 0 shape.computations)) 64
 
--- ---- routes
+-- ---- which of them a record comes through
 
--- the weak computations between each part that is left and each of its consumers, and how many weak ones
--- there are
+-- part by part, for each consumer that a part then has, the weak computations before it; and how many there were
 pub record RoutesView : Type 0 where
   pub by_part : List (List (List ℕ))
   pub weaks : ℕ
 
--- what the ways to a stream pass
-abbrev pub passed_to : List ℕ → List Way → List (List ℕ)
-passed_to stream ways = map (λ (w : Way). w.passed)
-    (filter (λ (w : Way). pointwise nat_eq w.reading.stream stream) ways)
+-- what lies on those of these ways that begin at a stream
+abbrev pub passed_from : List ℕ → List Way → List (List ℕ)
+passed_from stream ways =
+    map (λ (way : Way). way.passed) (filter (λ (way : Way). pointwise nat_eq way.reading.stream stream) ways)
 
--- the routes from a stream to its consumers, in the order of the consumers
+-- what lies between a stream and each of its consumers, as consumers are counted
 abbrev pub routes_to : List Strong → List ℕ → List (List ℕ)
-routes_to strong stream = flat_map (λ (s : Strong). passed_to stream s.ways) strong
+routes_to readers stream = flat_map (λ (reader : Strong). passed_from stream reader.ways) readers
 
--- how many of these computations are weak
+-- the number of weak ones among these
 abbrev pub weak_count : List ComputationShape → ℕ
-weak_count computations = count_by (λ (c : ComputationShape). c.weak) computations
+weak_count all = count_by (λ (one : ComputationShape). one.weak) all
 
--- the routes of a topology, from the parts that folding leaves
+-- this of a whole topology, by the part numbers that its parts have in the end
 abbrev pub routes_in : Shape → RoutesView
 routes_in shape = record {
-  by_part = map (λ part. routes_to (strong_from 0 shape.computations) (stream_of (folded shape) part))
+  by_part = map (λ number. routes_to (strong_from 0 shape.computations) (stream_of (folded shape) number))
       (range_with_len 0 (parts_of (folded shape)));
   weaks = weak_count shape.computations;
 }
 
--- the route at an index, where the count begins anew behind the last one
-abbrev pub route_among : List (List ℕ) → ℕ → List ℕ
-route_among [] index = []
-route_among (route ∷ routes) index =
-    unwrap_or (slice_get (route ∷ routes) (index % length (route ∷ routes))) []
+-- consumers take turns: the route to the one whose turn an index is, or none where there is no consumer
+abbrev pub route_at_turn : List (List ℕ) → ℕ → List ℕ
+route_at_turn [] turn = []
+route_at_turn (first ∷ others) turn = unwrap_or (slice_get (first ∷ others) (turn % length (first ∷ others))) []
 
--- the route of a record that a part sent, by the index in the record's id
+-- what a record comes through, by the part that sent it and the index in its id
 abbrev pub route_in : RoutesView → ℕ → ℕ → List ℕ
-route_in routes part index = route_among (unwrap_or (slice_get routes.by_part part) []) index
+route_in routes sender index = route_at_turn (unwrap_or (slice_get routes.by_part sender) []) index

@@ -126,40 +126,53 @@ numbers_of (Count size) = 1
 numbers_of (Spike last times) = 2
 numbers_of Pass = 0
 
--- how many members have this name, 1 or none
-abbrev pub stated : List ℕ → Data → ℕ
-stated name value = option_map_or (λ member. 1) (get name value) 0
+-- how often a member of this name is there, which is once at most
+abbrev pub times_named : List ℕ → Data → ℕ
+times_named name value = option_map_or (λ found. 1) (get name value) 0
 
--- how many members say whether a computation of this kind is weak, which a pass alone may have
-abbrev pub weak_stated : Kind → Data → ℕ
-weak_stated Pass value = stated (codes "weak") value
-weak_stated _ value = 0
+-- how many members there are that may be missing: `cuts` of any computation, and `weak` of a pass
+abbrev pub optional_of : Kind → Data → ℕ
+optional_of Pass value = times_named (codes "cuts") value + times_named (codes "weak") value
+optional_of _ value = times_named (codes "cuts") value
 
--- whether a pass is weak: what its member says, and where it has none it is strong
-abbrev pub stated_weak : Data → Option Bool
-stated_weak value = option_map_or as_bool (get (codes "weak") value) (Some false)
+-- a pass is as weak as its member says, and not at all without one; a computation of another kind never is
+abbrev pub weakness_in : Kind → Data → Option Bool
+weakness_in Pass value = option_map_or as_bool (get (codes "weak") value) (Some false)
+weakness_in _ value = Some false
 
--- whether a computation of this kind is weak, which a pass alone can be
-abbrev pub weak_in : Kind → Data → Option Bool
-weak_in Pass value = stated_weak value
-weak_in _ value = Some false
-
--- how many members a computation of this kind has: four, those of its kind, and `cuts` and `weak` where they
--- are stated
+-- how many members a computation of this kind has: its name, its kind, what it reads, its stream, the numbers
+-- of its kind, and what else is there of those that may be missing
 abbrev pub members_of : Kind → Data → ℕ
-members_of kind value = 4 + numbers_of kind + stated (codes "cuts") value + weak_stated kind value
+members_of kind value = 4 + numbers_of kind + optional_of kind value
 
--- a computation of this kind, which has a name, readings, a stream, maybe cuts and as a pass maybe `weak`,
--- and no other member
+-- what a computation is called, and what its stream is called
+abbrev pub names_in : Data → Option (List ℕ × List ℕ)
+names_in value =
+    and_then (text_in (codes "name") value) (λ name.
+    and_then (text_in (codes "stream") value) (λ stream. Some (name, stream)))
+
+-- what it reads, and its cuts
+abbrev pub lists_in : Data → Option (List Reading × List (List ℕ))
+lists_in value = and_then (reads_in value) (λ reads. and_then (cuts_in value) (λ cuts. Some (reads, cuts)))
+
+-- a computation of this kind and weakness
+abbrev pub computation_with : Data → Kind → Bool → Option ComputationShape
+computation_with value kind weak =
+    and_then (names_in value) (λ names.
+    and_then (lists_in value) (λ lists. Some (record {
+      name = names.0;
+      kind = kind;
+      reads = lists.0;
+      stream = names.1;
+      cuts = lists.1;
+      weak = weak;
+    })))
+
+-- a computation of this kind, which has the members of that kind and no other
 abbrev pub computation_of_kind : Data → Kind → Option ComputationShape
 computation_of_kind value kind =
     with_members (members_of kind value) value
-    (and_then (weak_in kind value) (λ weak.
-    and_then (text_in (codes "name") value) (λ name.
-    and_then (reads_in value) (λ reads.
-    and_then (text_in (codes "stream") value) (λ stream.
-    and_then (cuts_in value) (λ cuts.
-    Some (record { name = name; kind = kind; reads = reads; stream = stream; cuts = cuts; weak = weak })))))))
+    (and_then (weakness_in kind value) (computation_with value kind))
 
 -- a computation
 abbrev pub computation_in : Data → Option ComputationShape

@@ -1,14 +1,10 @@
 -- What a `Topology` keeps beside its parts. No public clause cites this module.
 use Rattle.std.specs.Prelude.{◌≡◌, ℕ, Bool, List, map, filter, nat_eq, if◌then◌else◌, Some, None}
-use Rattle.std.specs.List.{list_any, filter_map, flat_map, enumerate_from, range_with_len}
+use Rattle.std.specs.List.{filter_map, flat_map, enumerate_from, range_with_len}
 use Rattle.std.specs.Cmp.Lexicographic.{pointwise}
 use Rattle.topology.specs.declared.subscription.Subscription.{Subscription}
 use Rattle.topology.specs.Shapes.{Shape, ComputationShape, Reading, subscriptions_to, injectors_of, parts_of, streams_of, consumers_of, feeds_of}
 use Rattle.topology.specs.Rules.{IsTopology}
-
--- whether a stream is among what is read
-abbrev pub is_among : List Reading → List ℕ → Bool
-is_among reads stream = list_any (λ (r : Reading). pointwise nat_eq r.stream stream) reads
 
 -- the numbers of the streams that pass a test, where the first has number n
 abbrev pub numbers_from : (List ℕ → Bool) → ℕ → List (List ℕ) → List ℕ

@@ -8,7 +8,7 @@ ghost use Rattle.topology.specs.Shapes.{streams_of};
 ghost use Rattle.topology.specs.Rules.{is_name_byte, is_name, all_differ, names_of};
 ghost use Rattle.topology.specs.Answers.{reading_count, cut_count};
 ghost use Rattle.json_reading.specs.Refusals.{IsRefusalOf};
-ghost use Rattle.topology.specs.FileRules.{is_few, reads_among, reads_above, in_range, is_in_range, is_ascending, is_cut, are_cuts, has_cuts, woven, checked};
+ghost use Rattle.topology.specs.FileRules.{is_few, reads_among, reads_above, in_range, is_in_range, is_ascending, is_cut, are_cuts, has_cuts, where_foldable, checked};
 
 use crate::file_parts::{FileComputation, FileParts};
 use crate::parts::ReadingPart;
@@ -213,7 +213,7 @@ fn broken_rule(file: &FileParts, names: &[Name], streams: &[Name]) -> Result<(),
     requires names { names.now ≡ names_of file.now }
     requires streams { streams.now ≡ streams_of file.now }
 
-    ensures kept { OnOk result (checked file.now ≡ woven file.now) }
+    ensures kept { OnOk result (checked file.now ≡ where_foldable file.now) }
     ensures broken { IfErr result (λ why. checked file.now ≡ Err why) }
 {
     if !is_few(file) {
@@ -240,9 +240,9 @@ fn broken_rule(file: &FileParts, names: &[Name], streams: &[Name]) -> Result<(),
     Ok(())
 }
 
-/// Tries the rules in their order, up to that of weak computations, which is tried as these are left out.
+/// Tries all rules in their order but the last, for which weak computations have to be taken out.
 pub fn check(alloc: Global, file: &FileParts) -> Result<(), TopologyRefusal>
-    ensures kept { OnOk result (checked file.now ≡ woven file.now) }
+    ensures kept { OnOk result (checked file.now ≡ where_foldable file.now) }
     ensures broken { IfErr result (IsRefusalOf TopologyRefusal.NoMemory (checked file.now)) }
 {
     let names = names_in(alloc, file.injectors(), file.computations())?;

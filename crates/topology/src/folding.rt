@@ -1,107 +1,112 @@
-//! A topology without its weak computations.
-ghost use Rattle.std.specs.Prelude.{◌≡◌, ◌<◌, ◌^◌, map, IfOk};
+//! Taking the weak computations out of a topology.
+ghost use Rattle.std.specs.Prelude.{◌≡◌, ◌<◌, ◌^◌, IfOk};
 ghost use Rattle.topology.specs.Shapes.{parts_of};
 ghost use Rattle.topology.specs.Rules.{IsTopology};
-ghost use Rattle.topology.specs.Folding.{are_reading, is_read, are_weak_read, is_foldable, strong_from, left_of, folded, routes_in};
-ghost use Rattle.topology.specs.Ways.{ReadSome};
+ghost use Rattle.topology.specs.Folding.{is_read, are_weak_read, is_foldable, strong_from, folded, routes_in};
+ghost use Rattle.topology.specs.Ways.{AllRead};
 
-use crate::parts::{ComputationPart, Parts, ReadingPart};
-use crate::routes::{Routes, routes_by_part};
+use crate::parts::{ComputationPart, Parts};
+use crate::routes::Routes;
 use crate::strong_parts::{StrongPart, computations_left, strong_from};
 use crate::topology::Topology;
+use crate::wiring::are_reading;
 use mw_types::{Duplicate, NoMemory};
 use std::alloc::Global;
 
-/// What a run works on: the topology without its weak computations, and the ways through those.
+/// A topology of which the weak computations were taken out, and where they were.
 #[derive(Drop)]
 pub struct Folded {
-    /// The topology that is left.
+    /// The parts that stay, which is what a run works on.
     pub topology: Topology,
-    /// The weak computations that a record passes on its way from one of its parts.
+    /// What stood between them.
     pub routes: Routes,
 }
 
-// ---- which topologies may be folded
+// ---- whether they may be taken out
 
-// Whether a stream is among those that are read here.
-fn are_reading(reads: &[ReadingPart], stream: &str) -> bool
-    ensures { result ≡ are_reading reads.now stream.now }
+// Whether one of these computations reads a stream.
+fn is_read(readers: &[ComputationPart], stream: &str) -> bool
+    ensures { result ≡ is_read readers.now stream.now }
 {
-    reads.iter().any(|reading| reading.stream() == stream)
-}
-
-// Whether a computation of these reads a stream.
-fn is_read(computations: &[ComputationPart], stream: &str) -> bool
-    ensures { result ≡ is_read computations.now stream.now }
-{
-    computations
+    readers
         .iter()
-        .any(|computation| are_reading(computation.reads(), stream))
+        .any(|reader| are_reading(reader.reads(), stream))
 }
 
-// Whether what each weak computation publishes is read.
-fn are_weak_read(computations: &[ComputationPart]) -> bool
-    ensures { result ≡ are_weak_read computations.now }
+// Whether each weak one among these has a reader.
+fn are_weak_read(all: &[ComputationPart]) -> bool
+    ensures { result ≡ are_weak_read all.now }
 {
-    computations.iter().all(|computation| !computation.weak()
-        || is_read(computations, computation.stream.text()))
+    all.iter()
+        .all(|one| !one.weak() || is_read(all, one.stream.text()))
 }
 
-// Whether what each weak computation publishes is read, and at most 64 readings are left without them.
+/// Whether they may all be taken out: each has a reader, and then there are no more than 64
+/// readings.
 pub fn is_foldable(alloc: Global, parts: &Parts) -> Result<bool, NoMemory>
-    requires few { parts_of parts.now < 2 ^ 32 }
-    requires reading { ReadSome parts.now.computations }
-    ensures { IfOk result (λ foldable. foldable ≡ is_foldable parts.now) }
+    requires numbers { parts_of parts.now < 2 ^ 32 }
+    requires reading { AllRead parts.now.computations }
+    ensures { IfOk result (λ answer. answer ≡ is_foldable parts.now) }
 {
-    if !are_weak_read(parts.computations()) {
-        return Ok(false);
+    if are_weak_read(parts.computations()) {
+        let stay = strong_from(alloc, 0, parts.computations())?;
+        return Ok(stay.is_some());
     }
-    let found = strong_from(alloc, 0, parts.computations())?;
-    let foldable = found.is_some();
-    drop(found);
-    Ok(foldable)
+    Ok(false)
 }
 
-// ---- what is left
+// ---- what stays
 
-// A topology without its weak computations, and the ways through those.
+/// The topology without them, and where they were.
 pub fn fold_parts(alloc: Global, parts: &Parts) -> Result<Folded, NoMemory>
     requires { IsTopology parts.now }
     ensures topology { IfOk result (λ made. made.topology ≡ folded parts.now) }
     ensures routes { IfOk result (λ made. made.routes ≡ routes_in parts.now) }
 {
+    // A topology is one only where they may be taken out.
     match strong_from(alloc, 0, parts.computations())? {
-        Some(strong) => fold_to(alloc, parts, strong.as_slice()),
+        Some(readers) => fold_to(alloc, parts, readers.as_slice()),
         None => unreachable!(),
     }
 }
 
-// The same, where the strong computations were found.
-fn fold_to<'a>(alloc: Global, parts: &Parts, strong: &[StrongPart<'a>]) -> Result<Folded, NoMemory>
+// The same, where it is known which computations stay.
+fn fold_to<'p>(alloc: Global, parts: &Parts, readers: &[StrongPart<'p>]) -> Result<Folded, NoMemory>
     requires rules { IsTopology parts.now }
-    requires strong { strong.now ≡ strong_from 0 parts.now.computations }
+    requires stay { readers.now ≡ strong_from 0 parts.now.computations }
     ensures topology { IfOk result (λ made. made.topology ≡ folded parts.now) }
     ensures routes { IfOk result (λ made. made.routes ≡ routes_in parts.now) }
 {
-    let left = parts_left(alloc, parts, strong)?;
-    let topology = Topology::of(alloc, left)?;
-    let by_part = routes_by_part(alloc, &topology, strong)?;
-    let weaks = (parts.computations().len() - strong.len()) as u32;
-    let routes = Routes { by_part, weaks };
+    let topology = topology_left(alloc, parts, readers)?;
+    let routes = Routes::of(alloc, &topology, readers, parts)?;
     Ok(Folded { topology, routes })
 }
 
-// All injectors, and behind them the strong computations alone.
-fn parts_left<'a>(
+// The topology of the computations that stay.
+fn topology_left<'p>(
     alloc: Global,
     parts: &Parts,
-    strong: &[StrongPart<'a>],
+    readers: &[StrongPart<'p>],
+) -> Result<Topology, NoMemory>
+    requires rules { IsTopology parts.now }
+    requires stay { readers.now ≡ strong_from 0 parts.now.computations }
+    ensures { IfOk result (λ topology. topology ≡ folded parts.now) }
+{
+    let left = parts_left(alloc, parts, readers)?;
+    Topology::of(alloc, left)
+}
+
+// The injectors, and the computations that stay.
+fn parts_left<'p>(
+    alloc: Global,
+    parts: &Parts,
+    readers: &[StrongPart<'p>],
 ) -> Result<Parts, NoMemory>
-    ensures { IfOk result (λ left. left
-        ≡ record { injectors = parts.now.injectors; computations = map left_of strong.now }) }
+    requires { readers.now ≡ strong_from 0 parts.now.computations }
+    ensures { IfOk result (λ left. left ≡ folded parts.now) }
 {
     let injectors = parts.injectors.copy(alloc)?;
-    let computations = computations_left(alloc, strong)?;
+    let computations = computations_left(alloc, readers)?;
     Ok(Parts {
         injectors,
         computations,

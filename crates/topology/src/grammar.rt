@@ -3,7 +3,7 @@ ghost use Rattle.std.specs.Prelude.{◌≡◌, ◌≤◌, codes, IfSome};
 ghost use Rattle.std.specs.Option.{option_map};
 ghost use Rattle.serde_json.specs.Find.{as_str};
 ghost use Rattle.serde_json.specs.View.{view, items_view};
-ghost use Rattle.topology.specs.Grammar.{and_then, has_members, each_of, list_of, array_in, list_in, some_of, text_in, number_in, injector_in, by_named, reading_in, kind_named, kind_in, reads_in, cuts_in, stated, weak_stated, stated_weak, weak_in, members_of, computation_in, injectors_in, shape_in, count_kind, spike_kind, computation_of_kind};
+ghost use Rattle.topology.specs.Grammar.{and_then, has_members, each_of, list_of, array_in, list_in, some_of, text_in, number_in, injector_in, by_named, reading_in, kind_named, kind_in, reads_in, cuts_in, times_named, optional_of, weakness_in, members_of, names_in, lists_in, computation_with, computation_in, injectors_in, shape_in, count_kind, spike_kind, computation_of_kind};
 ghost use Rattle.topology.specs.Answers.{Gives};
 
 use crate::file_parts::{FileComputation, FileParts};
@@ -238,12 +238,12 @@ fn members_of(kind: Kind, value: &Value) -> usize
         Kind::Spike { last: _, times: _ } => 2,
         Kind::Pass => 0,
     };
-    4 + numbers + stated(value, "cuts") + weak_stated(kind, value)
+    4 + numbers + optional_of(kind, value)
 }
 
-// How many members have this name, 1 or none.
-fn stated(value: &Value, name: &str) -> usize
-    ensures { result ≡ stated name.now (view value.now) }
+// How often a member of this name is there.
+fn times_named(value: &Value, name: &str) -> usize
+    ensures { result ≡ times_named name.now (view value.now) }
 {
     match value.get(name) {
         Some(_) => 1,
@@ -251,33 +251,25 @@ fn stated(value: &Value, name: &str) -> usize
     }
 }
 
-// How many members say whether a computation of this kind is weak, which a pass alone may have.
-fn weak_stated(kind: Kind, value: &Value) -> usize
-    ensures { result ≡ weak_stated kind (view value.now) }
+// How many members there are that may be missing. A `weak` that stands at another kind is not
+// counted, and so is one member too many.
+fn optional_of(kind: Kind, value: &Value) -> usize
+    ensures { result ≡ optional_of kind (view value.now) }
 {
+    let cuts = times_named(value, "cuts");
     match kind {
-        Kind::Pass => stated(value, "weak"),
-        _ => 0,
+        Kind::Pass => cuts + times_named(value, "weak"),
+        _ => cuts,
     }
 }
 
-// Whether a computation of this kind is weak, which a pass alone can be.
-fn weak_in(kind: Kind, value: &Value) -> Option<bool>
-    ensures { result ≡ weak_in kind (view value.now) }
+// Whether a computation of this kind is weak, or None where its member is no truth value.
+fn weakness_in(kind: Kind, value: &Value) -> Option<bool>
+    ensures { result ≡ weakness_in kind (view value.now) }
 {
     match kind {
-        Kind::Pass => stated_weak(value),
+        Kind::Pass => value.get("weak").map_or(Some(false), Value::as_bool),
         _ => Some(false),
-    }
-}
-
-// Whether a pass is weak: what its member says, and where it has none it is strong.
-fn stated_weak(value: &Value) -> Option<bool>
-    ensures { result ≡ stated_weak (view value.now) }
-{
-    match value.get("weak") {
-        Some(stated) => stated.as_bool(),
-        None => Some(false),
     }
 }
 
@@ -302,13 +294,41 @@ fn computation_of_kind(
     if !has_members(value, members_of(kind, value)) {
         return Err(ShapeRefusal::BadShape);
     }
-    let Some(weak) = weak_in(kind, value) else {
-        return Err(ShapeRefusal::BadShape);
-    };
+    match weakness_in(kind, value) {
+        Some(weak) => computation_with(alloc, value, kind, weak),
+        None => Err(ShapeRefusal::BadShape),
+    }
+}
+
+// What a computation is called, and what its stream is called.
+fn names_in(alloc: Global, value: &Value) -> Result<(Name, Name), ShapeRefusal>
+    ensures { Gives result (names_in (view value.now)) }
+{
     let name = name_in(alloc, value, "name")?;
-    let reads = reads_in(alloc, value)?;
     let stream = name_in(alloc, value, "stream")?;
+    Ok((name, stream))
+}
+
+// What it reads, and its cuts.
+fn lists_in(alloc: Global, value: &Value) -> Result<(Seq<ReadingPart>, Seq<Name>), ShapeRefusal>
+    ensures { Gives result (lists_in (view value.now)) }
+{
+    let reads = reads_in(alloc, value)?;
     let cuts = cuts_in(alloc, value)?;
+    Ok((reads, cuts))
+}
+
+// A computation of this kind and weakness.
+fn computation_with(
+    alloc: Global,
+    value: &Value,
+    kind: Kind,
+    weak: bool,
+) -> Result<FileComputation, ShapeRefusal>
+    ensures { Gives result (computation_with (view value.now) kind weak) }
+{
+    let (name, stream) = names_in(alloc, value)?;
+    let (reads, cuts) = lists_in(alloc, value)?;
     Ok(FileComputation {
         name,
         kind,

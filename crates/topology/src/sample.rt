@@ -63,13 +63,22 @@ fn raw_by_key(alloc: Global) -> Result<ReadingPart, NoMemory>
     })
 }
 
+// What its count and the stream of that are called.
+fn names(alloc: Global) -> Result<(Name, Name), NoMemory>
+    ensures name { IfOk result (λ names. names.0 ≡ codes "per_minute") }
+    ensures stream { IfOk result (λ names. names.1 ≡ codes "windows") }
+{
+    let name = Name::of(alloc, "per_minute")?;
+    let stream = Name::of(alloc, "windows")?;
+    Ok((name, stream))
+}
+
 // Its count.
 fn per_minute(alloc: Global, size: u64) -> Result<ComputationPart, NoMemory>
     ensures { IfOk result (λ made. made ≡ per_minute_shape size) }
 {
     let reads = list_of(alloc, raw_by_key(alloc)?)?;
-    let name = Name::of(alloc, "per_minute")?;
-    let stream = Name::of(alloc, "windows")?;
+    let (name, stream) = names(alloc)?;
     Ok(ComputationPart {
         name,
         kind: Kind::Count { size },

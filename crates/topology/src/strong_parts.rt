@@ -1,225 +1,214 @@
-//! The strong computations of a topology, each with its ways.
+//! Which computations stay when the weak ones are taken out, and what each then reads.
 //!
-//! The search begins at the end of the file. There each weak computation is left out once, by which time all
-//! that reads its stream has come up, so that what is left of its own readings stands above it.
-ghost use Rattle.std.specs.Prelude.{◌≡◌, ◌<◌, ◌+◌, ◌^◌, ◌∷◌, nat_le, length, map, IfOk, List};
-ghost use Rattle.std.specs.Option.{option_and_then};
+//! A file's computations are gone through from the last to the first. When a weak one's turn comes,
+//! all that may read its stream has been met, and nothing of what it reads was taken out yet: so
+//! each is taken out once.
+ghost use Rattle.std.specs.Prelude.{◌≡◌, ◌≤◌, ◌<◌, ◌+◌, ◌^◌, ◌∷◌, nat_le, length, map, IfOk};
 ghost use Rattle.topology.specs.Folding.{Strong, Way, way_count, strong_through, strong_as, strong_from, left_of};
-ghost use Rattle.topology.specs.Ways.{ReadSome, few_of};
+ghost use Rattle.topology.specs.Ways.{AllRead, number_behind, with_first, unless_many};
 
 use crate::parts::{ComputationPart, ReadingPart};
-use crate::ways::{WayPart, readings_of, ways_of, ways_through};
+use crate::ways::{WayPart, readings_left, straight_ways, ways_without};
 use mw_types::{Duplicate, KeyList, Name, NoMemory, Seq};
 use std::alloc::Global;
 use std::marker::Model;
 
-// A strong computation of the file, and the ways that its readings have become.
+// A computation that stays, and what has become of its readings so far.
 #[derive(Drop)]
-pub struct StrongPart<'a> {
-    computation: &'a ComputationPart,
+pub struct StrongPart<'p> {
+    stated: &'p ComputationPart,
     pub ways: Seq<WayPart>,
 }
 
-impl<'a> Model for StrongPart<'a> {
+impl<'p> Model for StrongPart<'p> {
     ghost use Rattle.topology.specs.Folding.{Strong};
 
     ghost Value = { Strong };
 
-    ghost view = { λ s. record { computation = s.computation.now; ways = s.ways } };
+    ghost view = { λ part. record { computation = part.stated.now; ways = part.ways } };
 }
 
-// A strong computation as the file states it.
-fn strong_as<'a>(
-    alloc: Global,
-    computation: &'a ComputationPart,
-) -> Result<StrongPart<'a>, NoMemory>
-    ensures { IfOk result (λ made. made ≡ strong_as computation.now) }
+// ---- one computation more
+
+// A computation that stays, as the file has it.
+fn as_stated<'p>(alloc: Global, stated: &'p ComputationPart) -> Result<StrongPart<'p>, NoMemory>
+    ensures { IfOk result (λ part. part ≡ strong_as stated.now) }
 {
-    let ways = ways_of(alloc, computation.reads())?;
-    Ok(StrongPart { computation, ways })
+    let ways = straight_ways(alloc, stated.reads())?;
+    Ok(StrongPart { stated, ways })
 }
 
-// ---- one weak computation left out
-
-// A strong computation, where each of its ways to the weak one's stream goes through that.
-fn strong_through<'a>(
+// A computation that stays, once this weak one is taken out too.
+fn without_one<'p>(
     alloc: Global,
     number: u32,
-    weak: &ComputationPart,
-    strong: &StrongPart<'a>,
-) -> Result<StrongPart<'a>, NoMemory>
-    ensures { IfOk result (λ made. made ≡ strong_through number weak.now strong.now) }
+    gone: &ComputationPart,
+    reader: &StrongPart<'p>,
+) -> Result<StrongPart<'p>, NoMemory>
+    ensures { IfOk result (λ part. part ≡ strong_through number gone.now reader.now) }
 {
-    let ways = ways_through(alloc, number, weak, strong.ways.as_slice())?;
-    Ok(StrongPart {
-        computation: strong.computation,
-        ways,
-    })
+    let ways = ways_without(alloc, number, gone, reader.ways.as_slice())?;
+    let stated = reader.stated;
+    Ok(StrongPart { stated, ways })
 }
 
-// The same of each strong computation.
-fn all_through<'a>(
+// All that stay, once this weak one is taken out too.
+fn all_without<'p>(
     alloc: Global,
     number: u32,
-    weak: &ComputationPart,
-    strong: &[StrongPart<'a>],
-) -> Result<Seq<StrongPart<'a>>, NoMemory>
-    ensures { IfOk result (λ made. made ≡ map (strong_through number weak.now) strong.now) }
+    gone: &ComputationPart,
+    readers: &[StrongPart<'p>],
+) -> Result<Seq<StrongPart<'p>>, NoMemory>
+    ensures { IfOk result (λ parts. parts ≡ map (strong_through number gone.now) readers.now) }
 {
-    let mut made = Seq::new(alloc);
-    for one in strong {
-        made.push(strong_through(alloc, number, weak, one)?)?;
+    let mut parts = Seq::new(alloc);
+    for reader in readers {
+        parts.push(without_one(alloc, number, gone, reader)?)?;
     }
-    Ok(made)
+    Ok(parts)
 }
 
-// ---- not too many ways
+// What stays of a computation and those behind it, of which this stays.
+fn with_first<'p>(
+    alloc: Global,
+    number: u32,
+    first: &'p ComputationPart,
+    rest: Seq<StrongPart<'p>>,
+) -> Result<Seq<StrongPart<'p>>, NoMemory>
+    ensures { IfOk result (λ parts. parts ≡ with_first number first.now rest.entry) }
+{
+    if first.weak() {
+        all_without(alloc, number, first, rest.as_slice())
+    } else {
+        in_front(alloc, first, rest)
+    }
+}
+
+// A computation that stays, as the file has it, and behind it what stays of the others.
+fn in_front<'p>(
+    alloc: Global,
+    first: &'p ComputationPart,
+    rest: Seq<StrongPart<'p>>,
+) -> Result<Seq<StrongPart<'p>>, NoMemory>
+    ensures { IfOk result (λ parts. parts ≡ strong_as first.now ∷ rest.entry) }
+{
+    let mut parts = rest;
+    parts.insert(0, as_stated(alloc, first)?)?;
+    Ok(parts)
+}
+
+// The number of the next weak computation behind one.
+fn number_behind(number: u32, one: &ComputationPart) -> u32
+    requires { number + 1 < 2 ^ 32 }
+    ensures number { result ≡ number_behind number one.now }
+    ensures next { result ≤ number + 1 }
+{
+    if one.weak() { number + 1 } else { number }
+}
+
+// ---- all of them
 
 // Whether there are at most so many ways.
-fn has_room_for_ways<'a>(strong: &[StrongPart<'a>], room: usize) -> bool
-    ensures { result ≡ nat_le (way_count strong.now) room }
+fn have_room<'p>(readers: &[StrongPart<'p>], room: usize) -> bool
+    ensures { result ≡ nat_le (way_count readers.now) room }
 {
-    let mut left = room;
-    for one in strong {
-        let ways = one.ways.len();
-        if ways > left {
+    let mut room_left = room;
+    for reader in readers {
+        let ways = reader.ways.len();
+        if room_left < ways {
             return false;
         }
-        left -= ways;
+        room_left -= ways;
     }
     true
 }
 
-// What was found, unless it has more than 64 ways.
-fn few_of<'a>(strong: Seq<StrongPart<'a>>) -> Option<Seq<StrongPart<'a>>>
-    ensures { result ≡ few_of strong.entry }
+// These, unless they have more than 64 ways.
+fn unless_many<'p>(readers: Seq<StrongPart<'p>>) -> Option<Seq<StrongPart<'p>>>
+    ensures { result ≡ unless_many readers.entry }
 {
-    if has_room_for_ways(strong.as_slice(), 64) {
-        Some(strong)
-    } else {
-        drop(strong);
-        None
+    if have_room(readers.as_slice(), 64) {
+        return Some(readers);
     }
+    None
 }
 
-// ---- the search
-
-// What was found behind a weak computation, with the ways through that.
-fn behind_weak<'a>(
+/// What stays of these computations, where this is the number that their first weak one has; None
+/// where that reads more than 64 streams.
+///
+/// It gives up as soon as there are so many, or each weak computation might double what the next
+/// has to go through. Nothing is lost by it: as a weak one reads something too, its going never
+/// makes readings fewer.
+pub fn strong_from<'p>(
     alloc: Global,
     number: u32,
-    weak: &ComputationPart,
-    behind: Option<Seq<StrongPart<'a>>>,
-) -> Result<Option<Seq<StrongPart<'a>>>, NoMemory>
-    ensures { IfOk result (λ found. found ≡ option_and_then
-        (λ (strong : List Strong). few_of (map (strong_through number weak.now) strong)) behind.entry) }
-{
-    match behind {
-        Some(strong) => {
-            let through = all_through(alloc, number, weak, strong.as_slice())?;
-            drop(strong);
-            Ok(few_of(through))
-        }
-        None => Ok(None),
-    }
-}
-
-// What was found behind a strong computation, with that before it.
-fn behind_strong<'a>(
-    alloc: Global,
-    computation: &'a ComputationPart,
-    behind: Option<Seq<StrongPart<'a>>>,
-) -> Result<Option<Seq<StrongPart<'a>>>, NoMemory>
-    ensures { IfOk result (λ found. found ≡ option_and_then
-        (λ (strong : List Strong). few_of (strong_as computation.now ∷ strong)) behind.entry) }
-{
-    match behind {
-        Some(strong) => {
-            let mut all = strong;
-            all.insert(0, strong_as(alloc, computation)?)?;
-            Ok(few_of(all))
-        }
-        None => Ok(None),
-    }
-}
-
-// The strong ones of these computations, where the first weak one has this number, or None where they have
-// more than 64 ways. To stop there is right, and keeps the search short: a weak computation reads something,
-// so that there are never fewer ways once it is left out.
-pub fn strong_from<'a>(
-    alloc: Global,
-    number: u32,
-    computations: &'a [ComputationPart],
-) -> Result<Option<Seq<StrongPart<'a>>>, NoMemory>
-    requires few { number + length computations.now < 2 ^ 32 }
-    requires reading { ReadSome computations.now }
-    ensures { IfOk result (λ found. found ≡ few_of (strong_from number computations.now)) }
+    computations: &'p [ComputationPart],
+) -> Result<Option<Seq<StrongPart<'p>>>, NoMemory>
+    requires numbers { number + length computations.now < 2 ^ 32 }
+    requires reading { AllRead computations.now }
+    ensures { IfOk result (λ found. found ≡ unless_many (strong_from number computations.now)) }
 {
     let Some((first, rest)) = computations.split_first() else {
         return Ok(Some(Seq::new(alloc)));
     };
-    if first.weak() {
-        let behind = strong_from(alloc, number + 1, rest)?;
-        behind_weak(alloc, number, first, behind)
-    } else {
-        let behind = strong_from(alloc, number, rest)?;
-        behind_strong(alloc, first, behind)
-    }
+    let Some(behind) = strong_from(alloc, number_behind(number, first), rest)? else {
+        return Ok(None);
+    };
+    let all = with_first(alloc, number, first, behind)?;
+    Ok(unless_many(all))
 }
 
-// ---- what is left
+// ---- as parts of a topology
 
-// The strong computations, each with what its ways read.
-pub fn computations_left<'a>(
+/// The computations that stay, each with the readings that it has in the end.
+pub fn computations_left<'p>(
     alloc: Global,
-    strong: &[StrongPart<'a>],
+    readers: &[StrongPart<'p>],
 ) -> Result<Seq<ComputationPart>, NoMemory>
-    ensures { IfOk result (λ left. left ≡ map left_of strong.now) }
+    ensures { IfOk result (λ parts. parts ≡ map left_of readers.now) }
 {
-    let mut left = Seq::new(alloc);
-    for one in strong {
-        left.push(left_of(alloc, one)?)?;
+    let mut parts = Seq::new(alloc);
+    for reader in readers {
+        parts.push(left_of(alloc, reader)?)?;
     }
-    Ok(left)
+    Ok(parts)
 }
 
-// A strong computation with what its ways read.
-fn left_of<'a>(alloc: Global, strong: &StrongPart<'a>) -> Result<ComputationPart, NoMemory>
-    ensures { IfOk result (λ made. made ≡ left_of strong.now) }
+// One of them.
+fn left_of<'p>(alloc: Global, reader: &StrongPart<'p>) -> Result<ComputationPart, NoMemory>
+    ensures { IfOk result (λ part. part ≡ left_of reader.now) }
 {
-    let computation = strong.computation;
-    let (name, stream) = names_of(alloc, computation)?;
-    let (reads, cuts) = lists_of(alloc, computation, strong.ways.as_slice())?;
+    let stated = reader.stated;
+    let (name, stream) = names_in(alloc, stated)?;
+    let (reads, cuts) = lists_in(alloc, stated, reader.ways.as_slice())?;
     Ok(ComputationPart {
         name,
-        kind: computation.kind(),
+        kind: stated.kind(),
         reads,
         stream,
         cuts,
-        weak: computation.weak(),
+        weak: stated.weak(),
     })
 }
 
-// What a computation is called, and the stream that it publishes.
-fn names_of(alloc: Global, computation: &ComputationPart) -> Result<(Name, Name), NoMemory>
-    ensures name { IfOk result (λ names. names.0 ≡ computation.now.name) }
-    ensures stream { IfOk result (λ names. names.1 ≡ computation.now.stream) }
+// The name and the stream that the file gives it.
+fn names_in(alloc: Global, stated: &ComputationPart) -> Result<(Name, Name), NoMemory>
+    ensures name { IfOk result (λ pair. pair.0 ≡ stated.now.name) }
+    ensures stream { IfOk result (λ pair. pair.1 ≡ stated.now.stream) }
 {
-    let name = computation.name.copy(alloc)?;
-    let stream = computation.stream.copy(alloc)?;
-    Ok((name, stream))
+    let name = stated.name.copy(alloc)?;
+    Ok((name, stated.stream.copy(alloc)?))
 }
 
-// What its ways read, and its cuts.
-fn lists_of(
+// What it reads in the end, and the cuts that the file gives it.
+fn lists_in(
     alloc: Global,
-    computation: &ComputationPart,
+    stated: &ComputationPart,
     ways: &[WayPart],
 ) -> Result<(Seq<ReadingPart>, KeyList), NoMemory>
-    ensures reads { IfOk result (λ lists. lists.0 ≡ map (λ (w : Way). w.reading) ways.now) }
-    ensures cuts { IfOk result (λ lists. lists.1 ≡ computation.now.cuts) }
+    ensures reads { IfOk result (λ pair. pair.0 ≡ map (λ (way : Way). way.reading) ways.now) }
+    ensures cuts { IfOk result (λ pair. pair.1 ≡ stated.now.cuts) }
 {
-    let reads = readings_of(alloc, ways)?;
-    let cuts = computation.cuts().copy(alloc)?;
-    Ok((reads, cuts))
+    let reads = readings_left(alloc, ways)?;
+    Ok((reads, stated.cuts().copy(alloc)?))
 }

@@ -9,9 +9,8 @@ ghost use Rattle.topology.specs.Rules.{IsTopology, part_cuts_of};
 
 use crate::folding::{Folded, fold_parts};
 use crate::parts::Parts;
-use crate::publishers::streams_in;
 use crate::subscription::Subscription;
-use crate::wiring::{SubscriptionList, consumers_in, feeds_in};
+use crate::wiring::{SubscriptionList, wires_in};
 use mw_types::{
     Duplicate, Key, KeyList, Kind, KindTable, Name, NoMemory, NumberList, PartCuts, PartCutsList,
     Seq,
@@ -45,9 +44,7 @@ impl Topology {
         requires { IsTopology parts }
         ensures { IfOk result (λ t. t ≡ parts) }
     {
-        let streams = streams_in(alloc, parts.injectors(), parts.computations())?;
-        let consumers = consumers_in(alloc, &parts, streams.as_slice())?;
-        let feeds = feeds_in(alloc, &parts, streams.as_slice())?;
+        let (streams, consumers, feeds) = wires_in(alloc, &parts)?;
         Ok(Topology {
             parts,
             streams,
@@ -108,8 +105,7 @@ impl Topology {
         self.feeds.as_slice()[part as usize].as_slice()
     }
 
-    /// Whether a part's productions are weak: such a pass sends a record on before anything is committed for
-    /// it. An injector's are not.
+    /// Whether a part is a weak pass, which commits nothing for a record before it sends it on.
     pub fn weak(&self, part: u32) -> bool
         requires { part < parts_of self.now }
         ensures weak { result ≡ is_weak self.now part }
@@ -117,10 +113,10 @@ impl Topology {
         self.parts.weak(part)
     }
 
-    /// The topology that a run works on, and the way of its records through what is left out of it.
+    /// The topology without its weak passes, and where these were: what a run works on.
     ///
-    /// No weak computation is left: what reads its stream reads, by its own extractor, what that computation
-    /// reads. The parts behind one are counted anew. It refuses for want of memory alone.
+    /// Who read a weak pass reads, by its own extractor, what that pass read. The numbers of the
+    /// parts behind one are smaller then. Nothing but want of memory is refused.
     pub fn fold(&self, alloc: Global) -> Result<Folded, NoMemory>
         ensures topology { IfOk result (λ made. made.topology ≡ folded self.now) }
         ensures routes { IfOk result (λ made. made.routes ≡ routes_in self.now) }

@@ -1,5 +1,4 @@
--- What a weak computation holds of the records that it sent on: their ids, in the order of ids and each once.
--- Own.
+-- Of which records a weak computation awaits the acknowledgement: their ids, ascending and each once. Own.
 use Rattle.std.specs.Prelude.{Bool, List}
 use Rattle.std.specs.List.{list_any}
 use Rattle.std.specs.Ordering.{is_eq}
@@ -9,18 +8,18 @@ use Rattle.std.specs.BTreeMap.{is_at}
 use Rattle.mw_types.specs.Orders.{id_cmp}
 use Rattle.mw_types.specs.declared.identity.RecordId.{RecordId}
 
--- whether two ids are of one record
+-- one id and another are those of the same record
 abbrev pub is_same : RecordId → RecordId → Bool
-is_same id other = is_eq (id_cmp id other)
+is_same one another = is_eq (id_cmp one another)
 
--- whether an id is among those held
+-- that of this record is awaited
 abbrev pub holds : List RecordId → RecordId → Bool
-holds held id = list_any (is_at (id_cmp id)) held
+holds awaited id = list_any (is_at (id_cmp id)) awaited
 
--- what is held once this id is
+-- what is awaited once this record is sent on, be it for the first time or not
 abbrev pub with_id : RecordId → List RecordId → List RecordId
-with_id id held = insert_key id_cmp held id
+with_id sent awaited = insert_key id_cmp awaited sent
 
--- what is held of the other ids
+-- what is awaited once this record is acknowledged
 abbrev pub without_id : RecordId → List RecordId → List RecordId
-without_id id held = remove_key (is_at (id_cmp id)) held
+without_id done awaited = remove_key (is_at (id_cmp done)) awaited

@@ -1,4 +1,4 @@
-//! The ids that one weak computation holds.
+//! What a weak computation remembers.
 ghost use Rattle.std.specs.Prelude.{◌≡◌, if◌then◌else◌, true, false, [], OnErr, OnOk};
 ghost use Rattle.mw_types.specs.declared.identity.RecordId.{RecordId};
 ghost use Rattle.weak_relay.specs.Relays.{holds, is_same, with_id, without_id};
@@ -8,13 +8,13 @@ use std::alloc::Global;
 use std::collections::BTreeSet;
 use std::marker::Model;
 
-/// The memory of a weak computation: the ids of records that it sent on and that are not acknowledged to it.
+/// The ids of the records whose acknowledgement a weak computation awaits, as it has sent them on.
 ///
-/// An acknowledgement goes on to the record's producer only where its id is here. What is here is lost with
-/// the process, and a record that is sent anew puts its id here anew.
+/// An acknowledgement is handed back to who sent the record only while it is awaited. That is known
+/// to the process alone: one that begins anew awaits nothing until a record comes once more.
 #[derive(Drop)]
 pub struct Relay {
-    held: BTreeSet<RecordId>,
+    awaited: BTreeSet<RecordId>,
 }
 
 impl Model for Relay {
@@ -23,22 +23,20 @@ impl Model for Relay {
 
     ghost Value = { List RecordId };
 
-    ghost view = { λ relay. relay.held.keys };
+    ghost view = { λ r. r.awaited.keys };
 }
 
 impl Relay {
-    /// A relay that holds no id. It takes no memory before the first.
+    /// One that has sent nothing on yet, for which no memory is wanted.
     pub fn new(alloc: Global) -> Relay
         ensures empty { result ≡ [] }
     {
-        Relay {
-            held: BTreeSet::new(alloc),
-        }
+        let awaited = BTreeSet::new(alloc);
+        Relay { awaited }
     }
 
-    /// Holds the id of a record before the record is sent on.
-    ///
-    /// An id that is held already stays so. It refuses for want of memory alone.
+    /// Notes that a record is about to be sent on. One that comes once more changes nothing. Only
+    /// want of memory is refused.
     pub fn forward(&mut self, id: RecordId) -> Result<(), NoMemory>
         ensures held { OnOk result (self.new ≡ with_id id self.old) }
         ensures among { OnOk result ((other : RecordId) →
@@ -46,12 +44,12 @@ impl Relay {
             ≡ (if is_same id other then true else holds self.old other)) }
         ensures unchanged { OnErr result (self.new ≡ self.old) }
     {
-        self.held.insert(id)?;
+        self.awaited.insert(id)?;
         Ok(())
     }
 
-    /// Takes the acknowledgement of a record, and tells whether to pass it on: whether the id was held. It is
-    /// then held no more.
+    /// Notes that a record was acknowledged, and answers whether that was awaited: only then is the
+    /// acknowledgement to be handed back.
     pub fn back(&mut self, id: RecordId) -> bool
         ensures held { result ≡ holds self.old id }
         ensures given { self.new ≡ without_id id self.old }
@@ -59,20 +57,20 @@ impl Relay {
             holds self.new other
             ≡ (if is_same id other then false else holds self.old other) }
     {
-        self.held.remove(&id)
+        self.awaited.remove(&id)
     }
 
-    /// Whether an id is held: whether its acknowledgement would be passed on.
+    /// Whether the acknowledgement of a record is awaited.
     pub fn holds(&self, id: RecordId) -> bool
         ensures held { result ≡ holds self.now id }
     {
-        self.held.contains(&id)
+        self.awaited.contains(&id)
     }
 
-    /// Lets all ids go, as when the process of the weak computation ends.
+    /// Awaits nothing any more, as a process that begins anew.
     pub fn forget(&mut self)
         ensures empty { self.new ≡ [] }
     {
-        self.held.clear();
+        self.awaited.clear();
     }
 }

@@ -2,6 +2,6 @@ use Rattle.std.proofs.Common.{◌≡◌, map, take}
 use Rattle.topology.specs.Folding.{left_of}
 use Rattle.topology.proofs.strong_parts.computations_left.Given as goal
 
--- those so far are left
-abbrev pub invariant-loop-one : goal.invariant-loop-one
-invariant-loop-one l = l.left ≡ map left_of (take l.one-index l.strong)
+-- there is one for each that was gone through
+abbrev pub invariant-loop-reader : goal.invariant-loop-reader
+invariant-loop-reader l = l.parts ≡ map left_of (take l.reader-index l.readers)
