@@ -16,6 +16,7 @@ pub mod Changing
 pub mod ProposalLaws
 pub mod Numbers
 pub mod DeskLaws
+pub mod Untried
 pub mod OwnLaws
 pub mod OwnReasons
 pub mod FirstLaws

@@ -12,7 +12,7 @@ use Rattle.mw_types.specs.declared.entry.Entry.{Entry}
 use Rattle.mw_types.specs.declared.entry.Entry.TheVariants.{Claim, Inject, Handle, Fire, Ack, Purge}
 use Rattle.row_parts.specs.Contents.{Contents}
 use Rattle.run_history.specs.Cases.{CaseShape}
-use Rattle.run_history.specs.Runs.{run_of, row_in}
+use Rattle.run_history.specs.Runs.{run_of, row_in, written_row}
 use Rattle.run_history.specs.Legal.{floor_of}
 use Rattle.run_history.specs.Fences.{CarryNot, IsClaimed, is_claim, known, sequencer_of}
 use Rattle.run_history.proofs.Beginnings.{slice_get-more, slice_get-last}
@@ -30,10 +30,13 @@ use Rattle.book.specs.Lawful.{HoldsRowsOf, IsLawful}
 use Rattle.book.specs.Marks.{AreUnderLow}
 use Rattle.book.specs.OwnDesks.{is_claimed, own_view}
 use Rattle.book.specs.Proposals.{IsProposedOf, IsWrittenBy}
+use Rattle.book.specs.Writings.{HasPut, IsPut, MayPut, MayPutAt}
 use Rattle.book.specs.declared.answers.Claimed.{Claimed}
 use Rattle.book.specs.declared.answers.Written.{Written}
 use Rattle.book.specs.declared.proposal.Proposal.{Proposal}
 use Rattle.book.specs.declared.proposal.Proposal.TheVariants as proposals
+use Rattle.book.specs.declared.writing.Writing.{Writing}
+use Rattle.book.specs.declared.writing.Writing.TheVariants as writings
 use Rattle.book.proofs.DeskLaws.{telling-if, if-telling, telling-same, IsRowSeen-told, MaySettle-told, IsOwnWork-told, IsWritten-telling, IsWrittenBy-telling, AreRowsOf-telling}
 use Rattle.book.proofs.Numbers.{drop-front, numbers_from-append}
 use Rattle.book.proofs.SeenRows.{part-there, told-then}
@@ -164,6 +167,16 @@ proposed book front lease name row proposal whole low is known =
           under_watermark = omega (arith, least, marks);
         })
 
+-- what is to be written may be
+pub may-put : (book : BookView) (front : ℕ) (lease : LeaseView) (name : RowName) (row : Contents) (writing : Writing)
+    → front ≡ length book.history → IsLawful book.case (core_of book)
+    → IfSome book.rows (λ _. AreUnderLow book.case (run_of book.case.topology book.history) book.marks)
+    → IsRowKnown (own_view book) lease name row → MayPut (own_view book) name row writing → MayPutAt book front name row writing
+may-put book front lease name row (writings.Propose proposal) whole lawful low is may =
+    (may.0, proposed book front lease name row proposal.now whole low is may.1)
+may-put book front lease name row (writings.Settle id) whole lawful low is may = may-settle book front row id whole may
+may-put book front lease name row (writings.Purge floor) whole lawful low is may = may-forget book front name row floor whole lawful may
+
 -- ---- what a call leaves
 
 -- all that a book has more was appended by the desk that is alone
@@ -238,6 +251,20 @@ written-by old new lease name proposal row answer same later found by = record {
   found = telling-if old.rows _ found;
   written = IsWrittenBy-telling old.case old.rows old.history new.history lease name proposal row answer by;
 }
+
+-- what was put
+pub put-of : (old new : BookView) (lease : LeaseView) (name : RowName) (writing : Writing) (row : Contents) (answer : Written)
+    → IsSameBook old new → old.faults ≤ new.faults → IsRowOf old.case old.rows old.history name row
+    → IsPut old.case old.rows old.history new.history lease name writing row answer
+    → HasPut (own_view old) (own_view new) lease name writing row answer
+put-of old new lease name (writings.Propose proposal) row answer same later found put =
+    written-by old new lease name proposal.now row answer same later found put
+put-of old new lease name (writings.Settle id) row answer same later found put =
+    let entry = Ack lease.seq name id in
+    stored old new lease name entry row (λ commit. written_row commit entry [] row) answer same later found put
+put-of old new lease name (writings.Purge floor) row answer same later found put =
+    let entry = Purge lease.seq name floor in
+    stored old new lease name entry row (λ commit. written_row commit entry [] row) answer same later found put
 
 -- a claim that was accepted
 pub claimed : (old new : BookView) (worker interval : ℕ) (answer : Claimed) → IsSameBook old new → old.faults ≤ new.faults

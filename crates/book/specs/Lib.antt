@@ -8,6 +8,7 @@ pub mod Proposals
 pub mod Claims
 pub mod Desks
 pub mod Desking
+pub mod Writings
 pub mod DeskReasons
 pub mod OwnDesks
 pub mod Storing

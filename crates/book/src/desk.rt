@@ -11,12 +11,14 @@ ghost use Rattle.book.specs.Desking.{HasClaimed, HasStored, HasWritten, IsKnownO
 ghost use Rattle.book.specs.DeskReasons.{HasClaimReason, HasReason, IsReportRefusal};
 ghost use Rattle.book.specs.Desks.{DeskView, HasLooked, HasMet, Home, IsNoteOf, IsSound, KeepsMarks, Sight, TellsUnlessAlone};
 ghost use Rattle.book.specs.Proposals.{IsProposable};
+ghost use Rattle.book.specs.Writings.{HasPut, MayPut};
 
 use crate::answers::{Claimed, Written};
 use crate::desk_refusal::DeskRefusal;
 use crate::lease::Lease;
 use crate::proposal::Proposal;
-use mw_types::{RecordId, RowName};
+use crate::writing::Writing;
+use mw_types::{Duplicate, NoMemory, RecordId, RowName};
 use row_parts::Row;
 use std::alloc::Global;
 
@@ -63,6 +65,64 @@ pub trait Desk: Drop {
         ensures loan { loan self.new ≡ loan self.old }
         ensures home { home self.new ≡ home self.old };
 
+    /// Writes into a row where it lies: appends one entry, which leaves the row as it then is. Answers
+    /// the entry's commit number. A refusal leaves the row as it was.
+    fn put(
+        &mut self,
+        alloc: Global,
+        lease: &Lease,
+        name: &RowName,
+        row: &mut Row,
+        writing: Writing<'_>,
+    ) -> Result<u64, DeskRefusal>
+        requires lease { MayAsk (view self.old) lease.now name.now }
+        requires row { IsRowKnown (view self.old) lease.now name.now row.old }
+        requires may { MayPut (view self.old) name.now row.old writing }
+
+        ensures put { IfOk result (λ commit. HasPut (view self.old) (view self.new)
+            lease.now name.now writing.entry row.old (answer_of commit row.new)) }
+        ensures row { OnErr result (row.new ≡ row.old) }
+        ensures looked { OnErr result (HasLooked (view self.old) (view self.new)) }
+        ensures reason { IfErr result (HasReason (view self.old) (view self.new) lease.now) }
+        ensures marks { KeepsMarks (view self.old) (view self.new) }
+        ensures loan { loan self.new ≡ loan self.old }
+        ensures home { home self.new ≡ home self.old };
+
+    /// Does what `put` does on a copy of a row, which it answers.
+    #[tactic(auto, using(crate::proofs::Untried::untried_looked, crate::proofs::Untried::untried_reason, crate::proofs::Untried::untried_marks))]
+    fn put_copy(
+        &mut self,
+        alloc: Global,
+        lease: &Lease,
+        name: &RowName,
+        row: &Row,
+        writing: Writing<'_>,
+    ) -> Result<Written, DeskRefusal>
+        requires lease { MayAsk (view self.old) lease.now name.now }
+        requires row { IsRowKnown (view self.old) lease.now name.now row.now }
+        requires may { MayPut (view self.old) name.now row.now writing }
+
+        ensures put { IfOk result (HasPut (view self.old) (view self.new)
+            lease.now name.now writing.entry row.now) }
+        ensures looked { OnErr result (HasLooked (view self.old) (view self.new)) }
+        ensures reason { IfErr result (HasReason (view self.old) (view self.new) lease.now) }
+        ensures marks { KeepsMarks (view self.old) (view self.new) }
+        ensures loan { loan self.new ≡ loan self.old }
+        ensures home { home self.new ≡ home self.old }
+    {
+        let mut left = match row.copy(alloc) {
+            Ok(left) => left,
+            Err(NoMemory) => return Err(DeskRefusal::NoMemory),
+        };
+        match self.put(alloc, lease, name, &mut left, writing) {
+            Ok(commit) => Ok(Written { commit, row: left }),
+            Err(why) => {
+                drop(left);
+                Err(why)
+            }
+        }
+    }
+
     /// A row is written anew: an injector's next line is injected, a record was handled, or a timer
     /// fired.
     fn write(
@@ -84,36 +144,9 @@ pub trait Desk: Drop {
         ensures reason { IfErr result (HasReason (view self.old) (view self.new) lease.now) }
         ensures marks { KeepsMarks (view self.old) (view self.new) }
         ensures loan { loan self.new ≡ loan self.old }
-        ensures home { home self.new ≡ home self.old };
-
-    /// Does what `write` does on a row that is changed where it lies, and answers the commit number. A
-    /// refusal leaves the row as it was.
-    fn write_in(
-        &mut self,
-        alloc: Global,
-        lease: &Lease,
-        name: &RowName,
-        row: &mut Row,
-        proposal: &Proposal,
-    ) -> Result<u64, DeskRefusal>
-        requires lease { MayAsk (view self.old) lease.now name.now }
-        requires row { IsRowKnown (view self.old) lease.now name.now row.old }
-        requires proposal { IsProposable (view self.old).case name.now row.old proposal.now }
-        requires known { IsKnownOf (view self.old) name.now proposal.now }
-
-        ensures written { IfOk result (λ commit. HasWritten (view self.old) (view self.new)
-            lease.now name.now proposal.now row.old (answer_of commit row.new)) }
-        ensures row { OnErr result (row.new ≡ row.old) }
-        ensures looked { OnErr result (HasLooked (view self.old) (view self.new)) }
-        ensures reason { IfErr result (HasReason (view self.old) (view self.new) lease.now) }
-        ensures marks { KeepsMarks (view self.old) (view self.new) }
-        ensures loan { loan self.new ≡ loan self.old }
         ensures home { home self.new ≡ home self.old }
     {
-        match self.write(alloc, lease, name, row, proposal) {
-            Ok(written) => Ok(put_written(row, written)),
-            Err(why) => Err(why),
-        }
+        self.put_copy(alloc, lease, name, row, Writing::Propose { proposal })
     }
 
     /// A sender learns that what it made was handled: the row no longer waits for the id.
@@ -136,37 +169,9 @@ pub trait Desk: Drop {
         ensures reason { IfErr result (HasReason (view self.old) (view self.new) lease.now) }
         ensures marks { KeepsMarks (view self.old) (view self.new) }
         ensures loan { loan self.new ≡ loan self.old }
-        ensures home { home self.new ≡ home self.old };
-
-    /// Does what `settle` does on a row that is changed where it lies, and answers the commit number. A
-    /// refusal leaves the row as it was.
-    fn settle_in(
-        &mut self,
-        alloc: Global,
-        lease: &Lease,
-        name: &RowName,
-        row: &mut Row,
-        id: RecordId,
-    ) -> Result<u64, DeskRefusal>
-        requires lease { MayAsk (view self.old) lease.now name.now }
-        requires row { IsRowKnown (view self.old) lease.now name.now row.old }
-        requires id { MaySettle (view self.old).told (view self.old).seen row.old id }
-
-        ensures written { let entry = Ack lease.now.seq name.now id in
-            IfOk result (λ commit. HasStored (view self.old) (view self.new) lease.now name.now
-            entry row.old (λ number. written_row number entry [] row.old)
-            (answer_of commit row.new)) }
-        ensures row { OnErr result (row.new ≡ row.old) }
-        ensures looked { OnErr result (HasLooked (view self.old) (view self.new)) }
-        ensures reason { IfErr result (HasReason (view self.old) (view self.new) lease.now) }
-        ensures marks { KeepsMarks (view self.old) (view self.new) }
-        ensures loan { loan self.new ≡ loan self.old }
         ensures home { home self.new ≡ home self.old }
     {
-        match self.settle(alloc, lease, name, row, id) {
-            Ok(written) => Ok(put_written(row, written)),
-            Err(why) => Err(why),
-        }
+        self.put_copy(alloc, lease, name, row, Writing::Settle { id })
     }
 
     /// A row forgets the ids of records that are finished: those below the floor.
@@ -189,37 +194,9 @@ pub trait Desk: Drop {
         ensures reason { IfErr result (HasReason (view self.old) (view self.new) lease.now) }
         ensures marks { KeepsMarks (view self.old) (view self.new) }
         ensures loan { loan self.new ≡ loan self.old }
-        ensures home { home self.new ≡ home self.old };
-
-    /// Does what `purge` does on a row that is changed where it lies, and answers the commit number. A
-    /// refusal leaves the row as it was.
-    fn purge_in(
-        &mut self,
-        alloc: Global,
-        lease: &Lease,
-        name: &RowName,
-        row: &mut Row,
-        floor: u64,
-    ) -> Result<u64, DeskRefusal>
-        requires lease { MayAsk (view self.old) lease.now name.now }
-        requires row { IsRowKnown (view self.old) lease.now name.now row.old }
-        requires floor { IsPurgeKnown (view self.old) name.now row.old floor }
-
-        ensures written { let entry = Purge lease.now.seq name.now floor in
-            IfOk result (λ commit. HasStored (view self.old) (view self.new) lease.now name.now
-            entry row.old (λ number. written_row number entry [] row.old)
-            (answer_of commit row.new)) }
-        ensures row { OnErr result (row.new ≡ row.old) }
-        ensures looked { OnErr result (HasLooked (view self.old) (view self.new)) }
-        ensures reason { IfErr result (HasReason (view self.old) (view self.new) lease.now) }
-        ensures marks { KeepsMarks (view self.old) (view self.new) }
-        ensures loan { loan self.new ≡ loan self.old }
         ensures home { home self.new ≡ home self.old }
     {
-        match self.purge(alloc, lease, name, row, floor) {
-            Ok(written) => Ok(put_written(row, written)),
-            Err(why) => Err(why),
-        }
+        self.put_copy(alloc, lease, name, row, Writing::Purge { floor })
     }
 
     /// A worker reports the own work of an interval that it has, in whole microseconds: the oldest that
@@ -283,14 +260,4 @@ pub trait Desk: Drop {
         ensures marks { KeepsMarks (view self.old) (view self.new) }
         ensures loan { loan self.new ≡ loan self.old }
         ensures home { home self.new ≡ home self.old };
-}
-
-// Puts the row that a write answered in the place of the one that it found, and answers the commit number.
-fn put_written(row: &mut Row, written: Written) -> u64
-    ensures commit { result ≡ written.commit }
-    ensures row { row.new ≡ written.row }
-{
-    let Written { commit, row: left } = written;
-    *row = left;
-    commit
 }

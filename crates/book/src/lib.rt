@@ -33,6 +33,7 @@ mod settling;
 mod storing;
 mod work_left;
 mod writes;
+mod writing;
 
 pub use answers::{Claimed, NamedRow, NamedRowList, Written};
 pub use book_core::Core;
@@ -47,3 +48,4 @@ pub use refusals::{ClaimRefusal, Stale, StartRefusal, StartWhy, WriteRefusal};
 pub use rows::{purged, settled};
 pub use sender_map::{settle, settled_by};
 pub use work_left::work_after;
+pub use writing::Writing;

@@ -2,13 +2,13 @@
 ghost use Rattle.std.specs.Prelude.{◌≡◌};
 ghost use Rattle.book.specs.OwnDesks.{own_view};
 
-use crate::answers::{Claimed, Written};
+use crate::answers::Claimed;
 use crate::books::Book;
 use crate::desk::{Desk, Seen};
 use crate::desk_refusal::DeskRefusal;
 use crate::lease::Lease;
-use crate::proposal::Proposal;
-use mw_types::{RecordId, RowName};
+use crate::writing::Writing;
+use mw_types::RowName;
 use row_keeper::Keeper;
 use row_parts::Row;
 use std::alloc::Global;
@@ -63,93 +63,17 @@ impl<'b, 'a, K: Keeper> Desk for OwnDesk<'b, 'a, K> {
         }
     }
 
-    fn write(
-        &mut self,
-        alloc: Global,
-        lease: &Lease,
-        name: &RowName,
-        row: &Row,
-        proposal: &Proposal,
-    ) -> Result<Written, DeskRefusal> {
-        self.book.sound();
-        let front = self.book.history().len() as u64;
-        match self.book.write(alloc, lease, front, name, row, proposal) {
-            Ok(written) => Ok(written),
-            Err(why) => Err(DeskRefusal::of_write(why)),
-        }
-    }
-
-    fn settle(
-        &mut self,
-        alloc: Global,
-        lease: &Lease,
-        name: &RowName,
-        row: &Row,
-        id: RecordId,
-    ) -> Result<Written, DeskRefusal> {
-        let front = self.book.history().len() as u64;
-        match self.book.settle(alloc, lease, front, name, row, id) {
-            Ok(written) => Ok(written),
-            Err(why) => Err(DeskRefusal::of_write(why)),
-        }
-    }
-
-    fn purge(
-        &mut self,
-        alloc: Global,
-        lease: &Lease,
-        name: &RowName,
-        row: &Row,
-        floor: u64,
-    ) -> Result<Written, DeskRefusal> {
-        let front = self.book.history().len() as u64;
-        match self.book.purge(alloc, lease, front, name, row, floor) {
-            Ok(written) => Ok(written),
-            Err(why) => Err(DeskRefusal::of_write(why)),
-        }
-    }
-
-    fn write_in(
+    fn put(
         &mut self,
         alloc: Global,
         lease: &Lease,
         name: &RowName,
         row: &mut Row,
-        proposal: &Proposal,
+        writing: Writing<'_>,
     ) -> Result<u64, DeskRefusal> {
         self.book.sound();
         let front = self.book.history().len() as u64;
-        match self.book.write_in(alloc, lease, front, name, row, proposal) {
-            Ok(commit) => Ok(commit),
-            Err(why) => Err(DeskRefusal::of_write(why)),
-        }
-    }
-
-    fn settle_in(
-        &mut self,
-        alloc: Global,
-        lease: &Lease,
-        name: &RowName,
-        row: &mut Row,
-        id: RecordId,
-    ) -> Result<u64, DeskRefusal> {
-        let front = self.book.history().len() as u64;
-        match self.book.settle_in(alloc, lease, front, name, row, id) {
-            Ok(commit) => Ok(commit),
-            Err(why) => Err(DeskRefusal::of_write(why)),
-        }
-    }
-
-    fn purge_in(
-        &mut self,
-        alloc: Global,
-        lease: &Lease,
-        name: &RowName,
-        row: &mut Row,
-        floor: u64,
-    ) -> Result<u64, DeskRefusal> {
-        let front = self.book.history().len() as u64;
-        match self.book.purge_in(alloc, lease, front, name, row, floor) {
+        match self.book.put(alloc, lease, front, name, row, writing) {
             Ok(commit) => Ok(commit),
             Err(why) => Err(DeskRefusal::of_write(why)),
         }

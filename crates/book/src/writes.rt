@@ -9,6 +9,7 @@ ghost use Rattle.book.specs.Conditions.{IsRowOf, IsRowSeenAt, MayForgetAt, MaySe
 ghost use Rattle.book.specs.Answers.{HasStayed, IsFullWhere, IsSameBook, IsStaleWhere, IsWritten, answer_of};
 ghost use Rattle.book.specs.Lawful.{IsLawful};
 ghost use Rattle.book.specs.Proposals.{IsProposable, IsProposedOf, IsWrittenBy};
+ghost use Rattle.book.specs.Writings.{IsPut, MayPutAt};
 ghost use Rattle.book.specs.Appending.{later_than};
 
 use crate::answers::Written;
@@ -18,6 +19,7 @@ use crate::lease::Lease;
 use crate::proposal::Proposal;
 use crate::refusals::WriteRefusal;
 use crate::settling::Settled;
+use crate::writing::Writing;
 use mw_types::{Duplicate, RecordId, RowName};
 use row_keeper::Keeper;
 use row_parts::Row;
@@ -53,11 +55,142 @@ impl<'a, K: Keeper> Book<'a, K> {
         ensures unchanged { OnErr result (HasStayed self.old self.new) }
         ensures same { IsSameBook self.old self.new }
     {
+        let writing = Writing::Propose { proposal };
+        self.put_copy(alloc, lease, front, name, row, writing)
+    }
+
+    /// A sender learns that what it made was handled: the row no longer waits for the id.
+    pub fn settle(
+        &mut self,
+        alloc: Global,
+        lease: &Lease,
+        front: u64,
+        name: &RowName,
+        row: &Row,
+        id: RecordId,
+    ) -> Result<Written, WriteRefusal>
+        requires lease { MayUseAt self.old lease.now front name.now }
+        requires row { IsRowSeenAt self.old lease.now front name.now row.now }
+        requires id { MaySettleAt self.old front row.now id }
+
+        ensures written { let entry = Ack lease.now.seq name.now id in
+            let left = written_row (length self.old.history) entry [] row.now in
+            let old = self.old in IfOk result
+            (IsWritten old.case old.rows old.history self.new.history
+            lease.now name.now entry left) }
+        ensures found { let old = self.old in
+            OnOk result (IsRowOf old.case old.rows old.history name.now row.now) }
+        ensures stale { IsStaleWhere self.old.history lease.now result }
+        ensures full { IsFullWhere self.old.limit self.old.history lease.now result }
+        ensures keeper_fault { HasCause self.old.faults self.new.faults result
+            WriteRefusal.KeeperFault }
+        ensures unchanged { OnErr result (HasStayed self.old self.new) }
+        ensures same { IsSameBook self.old self.new }
+    {
+        let writing = Writing::Settle { id };
+        self.put_copy(alloc, lease, front, name, row, writing)
+    }
+
+    /// A row forgets the ids of records that are finished: those below the floor.
+    pub fn purge(
+        &mut self,
+        alloc: Global,
+        lease: &Lease,
+        front: u64,
+        name: &RowName,
+        row: &Row,
+        floor: u64,
+    ) -> Result<Written, WriteRefusal>
+        requires lease { MayUseAt self.old lease.now front name.now }
+        requires row { IsRowSeenAt self.old lease.now front name.now row.now }
+        requires floor { MayForgetAt self.old front name.now row.now floor }
+
+        ensures written { let entry = Purge lease.now.seq name.now floor in
+            let left = written_row (length self.old.history) entry [] row.now in
+            let old = self.old in IfOk result
+            (IsWritten old.case old.rows old.history self.new.history
+            lease.now name.now entry left) }
+        ensures found { let old = self.old in
+            OnOk result (IsRowOf old.case old.rows old.history name.now row.now) }
+        ensures stale { IsStaleWhere self.old.history lease.now result }
+        ensures full { IsFullWhere self.old.limit self.old.history lease.now result }
+        ensures keeper_fault { HasCause self.old.faults self.new.faults result
+            WriteRefusal.KeeperFault }
+        ensures unchanged { OnErr result (HasStayed self.old self.new) }
+        ensures same { IsSameBook self.old self.new }
+    {
+        let writing = Writing::Purge { floor };
+        self.put_copy(alloc, lease, front, name, row, writing)
+    }
+
+    /// Writes into a row where it lies: appends one entry, and stores what it leaves of the row. Answers
+    /// the entry's commit number.
+    pub fn put(
+        &mut self,
+        alloc: Global,
+        lease: &Lease,
+        front: u64,
+        name: &RowName,
+        row: &mut Row,
+        writing: Writing<'_>,
+    ) -> Result<u64, WriteRefusal>
+        requires lease { MayUseAt self.old lease.now front name.now }
+        requires row { IsRowSeenAt self.old lease.now front name.now row.old }
+        requires may { MayPutAt self.old front name.now row.old writing }
+
+        ensures put { let old = self.old in IfOk result (λ commit.
+            IsPut old.case old.rows old.history self.new.history
+            lease.now name.now writing.entry row.old (answer_of commit row.new)) }
+        ensures row { OnErr result (row.new ≡ row.old) }
+        ensures found { let old = self.old in
+            OnOk result (IsRowOf old.case old.rows old.history name.now row.old) }
+        ensures stale { IsStaleWhere self.old.history lease.now result }
+        ensures full { IsFullWhere self.old.limit self.old.history lease.now result }
+        ensures keeper_fault { HasCause self.old.faults self.new.faults result
+            WriteRefusal.KeeperFault }
+        ensures unchanged { OnErr result (HasStayed self.old self.new) }
+        ensures same { IsSameBook self.old self.new }
+    {
+        match writing {
+            Writing::Propose { proposal } => {
+                self.write_in(alloc, lease, front, name, row, proposal)
+            }
+            Writing::Settle { id } => self.settle_in(alloc, lease, front, name, row, id),
+            Writing::Purge { floor } => self.purge_in(alloc, lease, front, name, row, floor),
+        }
+    }
+
+    /// Does what `put` does on a copy of a row, which it answers.
+    pub fn put_copy(
+        &mut self,
+        alloc: Global,
+        lease: &Lease,
+        front: u64,
+        name: &RowName,
+        row: &Row,
+        writing: Writing<'_>,
+    ) -> Result<Written, WriteRefusal>
+        requires lease { MayUseAt self.old lease.now front name.now }
+        requires row { IsRowSeenAt self.old lease.now front name.now row.now }
+        requires may { MayPutAt self.old front name.now row.now writing }
+
+        ensures put { let old = self.old in IfOk result
+            (IsPut old.case old.rows old.history self.new.history
+            lease.now name.now writing.entry row.now) }
+        ensures found { let old = self.old in
+            OnOk result (IsRowOf old.case old.rows old.history name.now row.now) }
+        ensures stale { IsStaleWhere self.old.history lease.now result }
+        ensures full { IsFullWhere self.old.limit self.old.history lease.now result }
+        ensures keeper_fault { HasCause self.old.faults self.new.faults result
+            WriteRefusal.KeeperFault }
+        ensures unchanged { OnErr result (HasStayed self.old self.new) }
+        ensures same { IsSameBook self.old self.new }
+    {
         let mut left = match self.copy_for(alloc, lease, row) {
             Ok(left) => left,
             Err(why) => return Err(why),
         };
-        match self.write_in(alloc, lease, front, name, &mut left, proposal) {
+        match self.put(alloc, lease, front, name, &mut left, writing) {
             Ok(commit) => Ok(Written { commit, row: left }),
             Err(why) => {
                 drop(left);
@@ -66,8 +199,8 @@ impl<'a, K: Keeper> Book<'a, K> {
         }
     }
 
-    /// Does what `write` does on a row that is changed where it lies. Answers the commit number.
-    pub fn write_in(
+    // Does what `write` does on a row that is changed where it lies. Answers the commit number.
+    fn write_in(
         &mut self,
         alloc: Global,
         lease: &Lease,
@@ -106,49 +239,8 @@ impl<'a, K: Keeper> Book<'a, K> {
         }
     }
 
-    /// A sender learns that what it made was handled: the row no longer waits for the id.
-    pub fn settle(
-        &mut self,
-        alloc: Global,
-        lease: &Lease,
-        front: u64,
-        name: &RowName,
-        row: &Row,
-        id: RecordId,
-    ) -> Result<Written, WriteRefusal>
-        requires lease { MayUseAt self.old lease.now front name.now }
-        requires row { IsRowSeenAt self.old lease.now front name.now row.now }
-        requires id { MaySettleAt self.old front row.now id }
-
-        ensures written { let entry = Ack lease.now.seq name.now id in
-            let left = written_row (length self.old.history) entry [] row.now in
-            let old = self.old in IfOk result
-            (IsWritten old.case old.rows old.history self.new.history
-            lease.now name.now entry left) }
-        ensures found { let old = self.old in
-            OnOk result (IsRowOf old.case old.rows old.history name.now row.now) }
-        ensures stale { IsStaleWhere self.old.history lease.now result }
-        ensures full { IsFullWhere self.old.limit self.old.history lease.now result }
-        ensures keeper_fault { HasCause self.old.faults self.new.faults result
-            WriteRefusal.KeeperFault }
-        ensures unchanged { OnErr result (HasStayed self.old self.new) }
-        ensures same { IsSameBook self.old self.new }
-    {
-        let mut left = match self.copy_for(alloc, lease, row) {
-            Ok(left) => left,
-            Err(why) => return Err(why),
-        };
-        match self.settle_in(alloc, lease, front, name, &mut left, id) {
-            Ok(commit) => Ok(Written { commit, row: left }),
-            Err(why) => {
-                drop(left);
-                Err(why)
-            }
-        }
-    }
-
-    /// Does what `settle` does on a row that is changed where it lies. Answers the commit number.
-    pub fn settle_in(
+    // Does what `settle` does on a row that is changed where it lies. Answers the commit number.
+    fn settle_in(
         &mut self,
         alloc: Global,
         lease: &Lease,
@@ -185,49 +277,8 @@ impl<'a, K: Keeper> Book<'a, K> {
         self.settle_row(alloc, lease, name, row, Settled { id, commit })
     }
 
-    /// A row forgets the ids of records that are finished: those below the floor.
-    pub fn purge(
-        &mut self,
-        alloc: Global,
-        lease: &Lease,
-        front: u64,
-        name: &RowName,
-        row: &Row,
-        floor: u64,
-    ) -> Result<Written, WriteRefusal>
-        requires lease { MayUseAt self.old lease.now front name.now }
-        requires row { IsRowSeenAt self.old lease.now front name.now row.now }
-        requires floor { MayForgetAt self.old front name.now row.now floor }
-
-        ensures written { let entry = Purge lease.now.seq name.now floor in
-            let left = written_row (length self.old.history) entry [] row.now in
-            let old = self.old in IfOk result
-            (IsWritten old.case old.rows old.history self.new.history
-            lease.now name.now entry left) }
-        ensures found { let old = self.old in
-            OnOk result (IsRowOf old.case old.rows old.history name.now row.now) }
-        ensures stale { IsStaleWhere self.old.history lease.now result }
-        ensures full { IsFullWhere self.old.limit self.old.history lease.now result }
-        ensures keeper_fault { HasCause self.old.faults self.new.faults result
-            WriteRefusal.KeeperFault }
-        ensures unchanged { OnErr result (HasStayed self.old self.new) }
-        ensures same { IsSameBook self.old self.new }
-    {
-        let mut left = match self.copy_for(alloc, lease, row) {
-            Ok(left) => left,
-            Err(why) => return Err(why),
-        };
-        match self.purge_in(alloc, lease, front, name, &mut left, floor) {
-            Ok(commit) => Ok(Written { commit, row: left }),
-            Err(why) => {
-                drop(left);
-                Err(why)
-            }
-        }
-    }
-
-    /// Does what `purge` does on a row that is changed where it lies. Answers the commit number.
-    pub fn purge_in(
+    // Does what `purge` does on a row that is changed where it lies. Answers the commit number.
+    fn purge_in(
         &mut self,
         alloc: Global,
         lease: &Lease,

@@ -12,13 +12,13 @@ use Rattle.list_lemmas.proofs.Told.{if-same}
 use Rattle.mw_types.specs.Orders.{row_cmp}
 use Rattle.mw_types.specs.declared.identity.RowName.{RowName}
 use Rattle.mw_types.specs.declared.entry.Entry.{Entry}
-use Rattle.mw_types.specs.declared.entry.Entry.TheVariants.{Claim}
+use Rattle.mw_types.specs.declared.entry.Entry.TheVariants.{Claim, Ack, Purge}
 use Rattle.mw_types.proofs.OrderLaws.{row_cmp-total}
 use Rattle.topology.specs.Shapes.{Shape, parts_of}
 use Rattle.row_parts.specs.Contents.{Contents, fresh}
 use Rattle.run_history.specs.Cases.{CaseShape, fresh_of}
 use Rattle.run_history.specs.Made.{row_written}
-use Rattle.run_history.specs.Runs.{Run, cached, row_in, row_of, run_of}
+use Rattle.run_history.specs.Runs.{Run, cached, row_in, row_of, run_of, written_row}
 use Rattle.run_history.specs.Fences.{CarryNot, IsClaimed, IsFenced, interval_of, known, last_claim, sequencer_of}
 use Rattle.run_history.specs.Fits.{fits}
 use Rattle.run_history.proofs.Claims.{last_claim-push}
@@ -32,12 +32,15 @@ use Rattle.history_laws.proofs.FenceLaws.{row_in-known}
 use Rattle.history_laws.proofs.RowSteps.{row_in-elsewhere, same_row}
 use Rattle.book.specs.Answers.{IsWritten}
 use Rattle.book.specs.Books.{LeaseView}
-use Rattle.book.specs.Desking.{HasStored, HasWritten, IsRowKnown}
+use Rattle.book.specs.Desking.{HasStored, HasWritten, IsKnownOf, IsRowKnown}
 use Rattle.book.specs.Desks.{DeskView, HasLooked, HasMoved, IsSound}
 use Rattle.book.specs.Proposals.{IsEntryOf, IsProposable}
+use Rattle.book.specs.Writings.{HasPut, MayPut}
 use Rattle.book.specs.declared.answers.Written.{Written}
 use Rattle.book.specs.declared.proposal.Proposal.{Proposal}
 use Rattle.book.specs.declared.proposal.Proposal.TheVariants as proposals
+use Rattle.book.specs.declared.writing.Writing.{Writing}
+use Rattle.book.specs.declared.writing.Writing.TheVariants as writings
 use Rattle.book.proofs.ClaimLaws.{row-no_claim}
 use Rattle.holdings.specs.Holding.{AreRowsHeld, HeldView, row_held, with_row}
 use Rattle.holdings.proofs.CacheLaws.{apart-tied, tied_row}
@@ -205,7 +208,7 @@ entry-on case seq name row (proposals.Handle delivery effects) entry may of = (a
 entry-on case seq name row (proposals.Fire timer mark effects) entry may of = (ap row_written of, ap sequencer_of of)
 
 -- a proposal that was accepted
-pub entered-written : (case : CaseShape) (old new : DeskView) (lease : LeaseView) (name : RowName) (proposal : Proposal) (row : Contents)
+entered-written : (case : CaseShape) (old new : DeskView) (lease : LeaseView) (name : RowName) (proposal : Proposal) (row : Contents)
     (answer : Written) → old.case ≡ case → IsProposable case name row proposal
     → HasWritten old new lease name proposal row answer → HasEntered old new lease name answer
 entered-written case old new lease name proposal row answer same may by =
@@ -214,7 +217,7 @@ entered-written case old new lease name proposal row answer same may by =
     record { before = by.before; entry = by.written.entry; left = _; moved = by.moved; on_row = on.0; carries = on.1; written = by.written.written }
 
 -- an entry that was stored
-pub entered-stored : (old new : DeskView) (lease : LeaseView) (name : RowName) (entry : Entry) (row : Contents) (left : ℕ → Contents)
+entered-stored : (old new : DeskView) (lease : LeaseView) (name : RowName) (entry : Entry) (row : Contents) (left : ℕ → Contents)
     (answer : Written) → row_written entry ≡ Some name → sequencer_of entry ≡ Some lease.seq
     → HasStored old new lease name entry row left answer → HasEntered old new lease name answer
 entered-stored old new lease name entry row left answer on carries by = record {
@@ -226,6 +229,26 @@ entered-stored old new lease name entry row left answer on carries by = record {
   carries = carries;
   written = by.written;
 }
+
+-- whatever was put
+pub entered-put : (old new : DeskView) (lease : LeaseView) (name : RowName) (writing : Writing) (row : Contents) (answer : Written)
+    → MayPut old name row writing → HasPut old new lease name writing row answer → HasEntered old new lease name answer
+entered-put old new lease name (writings.Propose proposal) row answer may by =
+    entered-written old.case old new lease name proposal.now row answer refl may.0 by
+entered-put old new lease name (writings.Settle id) row answer may by =
+    let entry = Ack lease.seq name id in
+    entered-stored old new lease name entry row (λ commit. written_row commit entry [] row) answer refl refl by
+entered-put old new lease name (writings.Purge floor) row answer may by =
+    let entry = Purge lease.seq name floor in
+    entered-stored old new lease name entry row (λ commit. written_row commit entry [] row) answer refl refl by
+
+-- what is proposed of the row that is held may be put into it
+pub proposed-put : (case : CaseShape) (desk : DeskView) (place : Option HeldView) (name : RowName) (proposal : Proposal) → desk.case ≡ case
+    → IfSome place (λ held. IsProposable case name (row_held case.topology held name) proposal) → IsKnownOf desk name proposal
+    → IfSome place (λ held. IsProposable desk.case name (row_held case.topology held name) proposal × IsKnownOf desk name proposal)
+proposed-put case desk None name proposal same may known = tt
+proposed-put case desk (Some held) name proposal same may known =
+    (subst (λ (c : CaseShape). IsProposable c name (row_held case.topology held name) proposal) (sym same) may, known)
 
 module _ (case : CaseShape) (old new : DeskView) (same : old.case ≡ case) (sound : IsSound old) (now : IsSound new) where
   -- the new history is fenced

@@ -29,7 +29,7 @@ use Rattle.book.specs.declared.desk_refusal.DeskRefusal.{DeskRefusal}
 use Rattle.book.proofs.Numbers.{own-stays}
 use Rattle.holdings.specs.Holding.{AreAllHeld, HasSeenOthers, HeldView, HoldsEntry, IsHeld, IsRefusedOf, KeepsHeld, KeepsOthers, held_at, row_held, with_row}
 use Rattle.holdings.specs.Steps.{IsReady, KeepsAll, with_cached}
-use Rattle.holdings.specs.Writing.{HasPutAt}
+use Rattle.holdings.specs.Writing.{IsRewrittenAt}
 use Rattle.holdings.proofs.HeldRows.{AreRowsHeld-cached, AreRowsHeld-elsewhere, AreRowsHeld-entered, AreRowsHeld-looked, AreRowsHeld-more, HasEntered, found-here, held-known, row_held-here, row_held-same}
 use Rattle.holdings.proofs.HeldPlaces.{held-here, held-others, held-read, held-within, number_or_not}
 
@@ -383,7 +383,7 @@ err-as A (Err why) result is said = subst (λ (r : Result ℕ DeskRefusal). OnEr
 -- what a write in place answers, as an answer with the row that is held then
 as-written : (shape : Shape) (after : List (Option HeldView)) (i : ℕ) (name : RowName) (held : HeldView) (place : Option HeldView)
     (result : Result ℕ DeskRefusal) (IsWrite : Contents → Written → Type 0)
-    → held_at after i ≡ place → IfOk result (λ commit. HasPutAt name (λ row left. IsWrite row (answer_of commit left)) held place)
+    → held_at after i ≡ place → IfOk result (λ commit. IsRewrittenAt name (λ row left. IsWrite row (answer_of commit left)) held place)
     → OnErr result (place ≡ Some held)
     → (written : Result Written DeskRefusal)
     × (MatchResult written (λ (w : Written). result ≡ Ok w.commit) (λ why. result ≡ Err why)
@@ -401,7 +401,7 @@ module _ (case : CaseShape) (old new : DeskView) (all mid : List (Option HeldVie
     (was : Option HeldView) (read : was ≡ get_or mid i was) (place : Option HeldView) (result : Result ℕ DeskRefusal)
     (IsEntry : LeaseView → Contents → Written → Type 0)
     (put : IfOk result (λ commit. IfSome was (λ (held : HeldView).
-    HasPutAt name (λ row left. IsEntry held.lease row (answer_of commit left)) held place)))
+    IsRewrittenAt name (λ row left. IsEntry held.lease row (answer_of commit left)) held place)))
     (kept : OnErr result (place ≡ was)) where
   -- what was held has the row cached, as it was
   abbrev pub put_held : HeldView
@@ -431,7 +431,7 @@ module _ (case : CaseShape) (old new : DeskView) (all mid : List (Option HeldVie
   answered = as-written case.topology put_all i name put_held place result (IsEntry ready.held.lease)
       (held-here mid i place (ready-within case old all mid i name lies ready are))
       (subst (λ (o : Option HeldView). IfOk result (λ commit. IfSome o (λ (held : HeldView).
-      HasPutAt name (λ row left. IsEntry held.lease row (answer_of commit left)) held place))) put_held-is put)
+      IsRewrittenAt name (λ row left. IsEntry held.lease row (answer_of commit left)) held place))) put_held-is put)
       (subst (λ (o : Option HeldView). OnErr result (place ≡ o)) put_held-is kept)
 
   -- what is held then

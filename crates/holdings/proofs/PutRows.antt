@@ -12,7 +12,7 @@ use Rattle.run_history.specs.Runs.{cached, row_in}
 use Rattle.book.specs.Books.{LeaseView}
 use Rattle.book.specs.declared.desk_refusal.DeskRefusal.{DeskRefusal}
 use Rattle.holdings.specs.Holding.{HeldView}
-use Rattle.holdings.specs.Writing.{HasPut, IsNoted, WasNoted}
+use Rattle.holdings.specs.Writing.{IsRewritten, IsNoted, WasNoted}
 use Rattle.holdings.specs.declared.index.Before.{Before}
 use Rattle.holdings.specs.declared.index.Index.{Index}
 use Rattle.holdings.proofs.HeldRows.{found-put, insert-same}
@@ -37,10 +37,10 @@ module _ (held : HeldView) (name : RowName) (row left : Contents) (lease : Lease
     (result : Result ℕ DeskRefusal) (same : lease ≡ held.lease) (was : row_in (cached held.rows) name ≡ Some row)
     (put : after ≡ insert_entry row_cmp held.rows name left) where
   -- a row that was written is held
-  pub HasPut-written : (IsWrite : LeaseView → Contents → Contents → ℕ → Type 0) → IfOk result (IsWrite lease row left)
-      → IfOk result (λ commit. HasPut name (λ r l. IsWrite held.lease r l commit) held (record { lease = lease; rows = after }))
-  HasPut-written IsWrite = IfOk-weaker result (IsWrite lease row left)
-      (λ commit. HasPut name (λ r l. IsWrite held.lease r l commit) held (record { lease = lease; rows = after }))
+  pub IsRewritten-put : (IsWrite : LeaseView → Contents → Contents → ℕ → Type 0) → IfOk result (IsWrite lease row left)
+      → IfOk result (λ commit. IsRewritten name (λ r l. IsWrite held.lease r l commit) held (record { lease = lease; rows = after }))
+  IsRewritten-put IsWrite = IfOk-weaker result (IsWrite lease row left)
+      (λ commit. IsRewritten name (λ r l. IsWrite held.lease r l commit) held (record { lease = lease; rows = after }))
       (λ commit write. record {
         row = row;
         left = left;

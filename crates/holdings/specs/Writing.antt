@@ -38,7 +38,7 @@ pub record WasNoted {A : Type 0} (name : RowName) (rows : List (RowName × Conte
   pub noted : IsNoted name old before index
 
 -- a row that is cached was written, as is said of it and of the row that it is now
-pub record HasPut (name : RowName) (IsWrite : Contents → Contents → Type 0) (old new : HeldView) : Type 0 where
+pub record IsRewritten (name : RowName) (IsWrite : Contents → Contents → Type 0) (old new : HeldView) : Type 0 where
   pub row : Contents
   pub left : Contents
   pub was : row_in (cached old.rows) name ≡ Some row
@@ -46,5 +46,5 @@ pub record HasPut (name : RowName) (IsWrite : Contents → Contents → Type 0) 
   pub is : new ≡ with_row name left old
 
 -- the same, and what is held then stands in a place
-abbrev pub HasPutAt : RowName → (Contents → Contents → Type 0) → HeldView → Option HeldView → Type 0
-HasPutAt name IsWrite old place = (new : HeldView) × ((place ≡ Some new) × HasPut name IsWrite old new)
+abbrev pub IsRewrittenAt : RowName → (Contents → Contents → Type 0) → HeldView → Option HeldView → Type 0
+IsRewrittenAt name IsWrite old place = (new : HeldView) × ((place ≡ Some new) × IsRewritten name IsWrite old new)

@@ -49,7 +49,7 @@ impl Holdings {
         let Claimed { lease, rows } = claimed?;
         let seq = lease.seq();
         let rows = Indexed::of(alloc, rows);
-        self.put(interval, Held { lease, rows });
+        self.hold(interval, Held { lease, rows });
         Ok(seq)
     }
 }

@@ -1,27 +1,25 @@
 //! What is held of one interval.
-ghost use Rattle.std.specs.Prelude.{◌≡◌, ◌<◌, [], IfErr, IfOk, IfSome, IsSome, OnErr, OnOk, option_copied};
+ghost use Rattle.std.specs.Prelude.{◌≡◌, ◌<◌, IfErr, IfOk, IfSome, IsSome, OnErr, OnOk, option_copied};
 ghost use Rattle.std.specs.List.Sorted.{IsStrictlySortedBy};
 ghost use Rattle.std.specs.Map.{keys_of};
 ghost use Rattle.mw_types.specs.Orders.{row_cmp};
-ghost use Rattle.mw_types.specs.declared.entry.Entry.TheVariants.{Ack, Purge};
-ghost use Rattle.run_history.specs.Runs.{cached, row_in, written_row};
+ghost use Rattle.run_history.specs.Runs.{cached, row_in};
 ghost use Rattle.book.specs.Answers.{answer_of};
-ghost use Rattle.book.specs.Conditions.{MaySettle};
-ghost use Rattle.book.specs.Desking.{HasStored, HasWritten, IsKnownOf, IsPurgeKnown, IsRowKnown, MayAsk};
+ghost use Rattle.book.specs.Desking.{IsRowKnown, MayAsk};
 ghost use Rattle.book.specs.DeskReasons.{HasReason};
 ghost use Rattle.book.specs.Desks.{HasLooked, KeepsMarks};
-ghost use Rattle.book.specs.Proposals.{IsProposable};
+ghost use Rattle.book.specs.Writings.{HasPut, MayPut};
 ghost use Rattle.holdings.specs.Holding.{row_held, with_row};
 ghost use Rattle.holdings.specs.Pendings.{ArePendingAmong};
 ghost use Rattle.holdings.specs.Purges.{IsFirstToPurge};
 ghost use Rattle.holdings.specs.Timers.{IsFirstTimer};
-ghost use Rattle.holdings.specs.Writing.{HasPut};
+ghost use Rattle.holdings.specs.Writing.{IsRewritten};
 
 use crate::first_timer::RowTimer;
 use crate::indexed::Indexed;
 use crate::pending::SentList;
-use book::{Desk, DeskRefusal, Lease, Proposal};
-use mw_types::{Duplicate, NoMemory, RecordId, RowName};
+use book::{Desk, DeskRefusal, Lease, Writing};
+use mw_types::{Duplicate, NoMemory, RowName};
 use row_parts::Row;
 use run_history::{Case, first_row};
 use std::alloc::Global;
@@ -100,25 +98,24 @@ impl Held {
         Ok(())
     }
 
-    // Writes a row that is cached anew, where it lies.
-    pub(crate) fn write<D: Desk>(
+    // Writes into a row that is cached, where it lies.
+    pub(crate) fn put<D: Desk>(
         &mut self,
         alloc: Global,
         desk: &mut D,
         name: &RowName,
-        proposal: &Proposal,
+        writing: Writing<'_>,
     ) -> Result<u64, DeskRefusal>
         requires there { IsSome (row_in (cached self.old.rows) name.now) }
         requires lease { MayAsk (D.view desk.old) self.old.lease name.now }
         requires row { IfSome (row_in (cached self.old.rows) name.now)
             (IsRowKnown (D.view desk.old) self.old.lease name.now) }
-        requires proposal { IfSome (row_in (cached self.old.rows) name.now) (λ row.
-            IsProposable (D.view desk.old).case name.now row proposal.now) }
-        requires known { IsKnownOf (D.view desk.old) name.now proposal.now }
+        requires may { IfSome (row_in (cached self.old.rows) name.now) (λ row.
+            MayPut (D.view desk.old) name.now row writing) }
 
-        ensures written { IfOk result (λ commit. HasPut name.now
-            (λ row left. HasWritten (D.view desk.old) (D.view desk.new) self.old.lease name.now
-            proposal.now row (answer_of commit left)) self.old self.new) }
+        ensures put { IfOk result (λ commit. IsRewritten name.now
+            (λ row left. HasPut (D.view desk.old) (D.view desk.new) self.old.lease name.now
+            writing.entry row (answer_of commit left)) self.old self.new) }
 
         ensures kept { OnErr result (self.new ≡ self.old) }
         ensures looked { OnErr result (HasLooked (D.view desk.old) (D.view desk.new)) }
@@ -130,79 +127,7 @@ impl Held {
     {
         let (before, index) = self.rows.note(name);
         let row = self.rows.row_mut(name);
-        let written = desk.write_in(alloc, &self.lease, name, row, proposal);
-        self.rows.reindex(alloc, name, before, index);
-        written
-    }
-
-    // An id of a row that is cached is settled, where the row lies.
-    pub(crate) fn settle<D: Desk>(
-        &mut self,
-        alloc: Global,
-        desk: &mut D,
-        name: &RowName,
-        id: RecordId,
-    ) -> Result<u64, DeskRefusal>
-        requires there { IsSome (row_in (cached self.old.rows) name.now) }
-        requires lease { MayAsk (D.view desk.old) self.old.lease name.now }
-        requires row { IfSome (row_in (cached self.old.rows) name.now)
-            (IsRowKnown (D.view desk.old) self.old.lease name.now) }
-        requires id { IfSome (row_in (cached self.old.rows) name.now) (λ row.
-            MaySettle (D.view desk.old).told (D.view desk.old).seen row id) }
-
-        ensures settled { let entry = Ack self.old.lease.seq name.now id in
-            IfOk result (λ commit. HasPut name.now
-            (λ row left. HasStored (D.view desk.old) (D.view desk.new) self.old.lease name.now
-            entry row (λ number. written_row number entry [] row) (answer_of commit left))
-            self.old self.new) }
-
-        ensures kept { OnErr result (self.new ≡ self.old) }
-        ensures looked { OnErr result (HasLooked (D.view desk.old) (D.view desk.new)) }
-        ensures reason { IfErr result
-            (HasReason (D.view desk.old) (D.view desk.new) self.old.lease) }
-        ensures marks { KeepsMarks (D.view desk.old) (D.view desk.new) }
-        ensures loan { D.loan desk.new ≡ D.loan desk.old }
-        ensures home { D.home desk.new ≡ D.home desk.old }
-    {
-        let (before, index) = self.rows.note(name);
-        let row = self.rows.row_mut(name);
-        let written = desk.settle_in(alloc, &self.lease, name, row, id);
-        self.rows.reindex(alloc, name, before, index);
-        written
-    }
-
-    // A row that is cached forgets the ids below a floor, where it lies.
-    pub(crate) fn purge<D: Desk>(
-        &mut self,
-        alloc: Global,
-        desk: &mut D,
-        name: &RowName,
-        floor: u64,
-    ) -> Result<u64, DeskRefusal>
-        requires there { IsSome (row_in (cached self.old.rows) name.now) }
-        requires lease { MayAsk (D.view desk.old) self.old.lease name.now }
-        requires row { IfSome (row_in (cached self.old.rows) name.now)
-            (IsRowKnown (D.view desk.old) self.old.lease name.now) }
-        requires floor { IfSome (row_in (cached self.old.rows) name.now) (λ row.
-            IsPurgeKnown (D.view desk.old) name.now row floor) }
-
-        ensures purged { let entry = Purge self.old.lease.seq name.now floor in
-            IfOk result (λ commit. HasPut name.now
-            (λ row left. HasStored (D.view desk.old) (D.view desk.new) self.old.lease name.now
-            entry row (λ number. written_row number entry [] row) (answer_of commit left))
-            self.old self.new) }
-
-        ensures kept { OnErr result (self.new ≡ self.old) }
-        ensures looked { OnErr result (HasLooked (D.view desk.old) (D.view desk.new)) }
-        ensures reason { IfErr result
-            (HasReason (D.view desk.old) (D.view desk.new) self.old.lease) }
-        ensures marks { KeepsMarks (D.view desk.old) (D.view desk.new) }
-        ensures loan { D.loan desk.new ≡ D.loan desk.old }
-        ensures home { D.home desk.new ≡ D.home desk.old }
-    {
-        let (before, index) = self.rows.note(name);
-        let row = self.rows.row_mut(name);
-        let written = desk.purge_in(alloc, &self.lease, name, row, floor);
+        let written = desk.put(alloc, &self.lease, name, row, writing);
         self.rows.reindex(alloc, name, before, index);
         written
     }

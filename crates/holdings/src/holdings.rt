@@ -82,11 +82,11 @@ impl Holdings {
     }
 
     // Puts what is held of an interval in its place.
-    pub(crate) fn put(&mut self, interval: u32, held: Held)
+    pub(crate) fn hold(&mut self, interval: u32, held: Held)
         ensures { self.new ≡ slice_set self.old interval (Some held) }
     {
         if let Some(place) = self.all.get_mut(interval as usize) {
-            put_at(place, held);
+            hold_at(place, held);
         }
     }
 
@@ -150,7 +150,7 @@ fn take_in(all: &mut Vec<Option<Held>>, at: usize) -> Option<Held>
 }
 
 // Puts a value in a place.
-fn put_at(place: &mut Option<Held>, held: Held)
+fn hold_at(place: &mut Option<Held>, held: Held)
     ensures { place.new ≡ Some held }
 {
     *place = Some(held);

@@ -10,12 +10,13 @@ ghost use Rattle.book.specs.Desking.{HasStored, HasWritten, IsKnownOf, IsPurgeKn
 ghost use Rattle.book.specs.DeskReasons.{HasReason};
 ghost use Rattle.book.specs.Desks.{HasLooked, KeepsMarks};
 ghost use Rattle.book.specs.Proposals.{IsProposable};
+ghost use Rattle.book.specs.Writings.{HasPut, MayPut};
 ghost use Rattle.holdings.specs.Holding.{AreAllHeld, HoldsEntry, IsRefusedOf, KeepsHeld, held_at, row_held};
-ghost use Rattle.holdings.specs.Writing.{HasPutAt};
+ghost use Rattle.holdings.specs.Writing.{IsRewrittenAt};
 
 use crate::held::Held;
 use crate::holdings::Holdings;
-use book::{Desk, DeskRefusal, Proposal};
+use book::{Desk, DeskRefusal, Proposal, Writing};
 use mw_types::{RecordId, RowName};
 use run_history::Case;
 use std::alloc::Global;
@@ -23,7 +24,6 @@ use std::alloc::Global;
 impl Holdings {
     /// Writes a row anew: an injector's next line is injected, a record was handled, or a timer
     /// fired. Answers the commit number of the entry.
-    #[tactic(auto, using(crate::proofs::HeldSteps::unasked))]
     pub fn write<D: Desk>(
         &mut self,
         alloc: Global,
@@ -56,17 +56,12 @@ impl Holdings {
         ensures loan { D.loan desk.new ≡ D.loan desk.old }
         ensures home { D.home desk.new ≡ D.home desk.old }
     {
-        desk.sound();
-        self.ready(alloc, case, interval, name)?;
-        let place = &mut self.all[interval as usize];
-        let written = write_at(place, alloc, desk, name, proposal);
-        desk.sound();
-        written
+        let writing = Writing::Propose { proposal };
+        self.put(alloc, desk, case, interval, name, writing)
     }
 
     /// A sender learns that what it made was handled: the row no longer waits for the id. Answers
     /// the commit number of the entry.
-    #[tactic(auto, using(crate::proofs::HeldSteps::unasked))]
     pub fn settle<D: Desk>(
         &mut self,
         alloc: Global,
@@ -100,17 +95,12 @@ impl Holdings {
         ensures loan { D.loan desk.new ≡ D.loan desk.old }
         ensures home { D.home desk.new ≡ D.home desk.old }
     {
-        desk.sound();
-        self.ready(alloc, case, interval, name)?;
-        let place = &mut self.all[interval as usize];
-        let written = settle_at(place, alloc, desk, name, id);
-        desk.sound();
-        written
+        let writing = Writing::Settle { id };
+        self.put(alloc, desk, case, interval, name, writing)
     }
 
     /// A row forgets the ids of records that are finished: those below the floor. Answers the
     /// commit number of the entry.
-    #[tactic(auto, using(crate::proofs::HeldSteps::unasked))]
     pub fn purge<D: Desk>(
         &mut self,
         alloc: Global,
@@ -144,35 +134,72 @@ impl Holdings {
         ensures loan { D.loan desk.new ≡ D.loan desk.old }
         ensures home { D.home desk.new ≡ D.home desk.old }
     {
+        let writing = Writing::Purge { floor };
+        self.put(alloc, desk, case, interval, name, writing)
+    }
+
+    /// Writes into a row: appends one entry, and what the entry leaves of the row is held. Answers the
+    /// commit number of the entry.
+    #[tactic(auto, using(crate::proofs::HeldSteps::unasked))]
+    pub fn put<D: Desk>(
+        &mut self,
+        alloc: Global,
+        desk: &mut D,
+        case: &Case,
+        interval: u32,
+        name: &RowName,
+        writing: Writing<'_>,
+    ) -> Result<u64, DeskRefusal>
+        requires case { (D.view desk.old).case ≡ case.now }
+        requires fits { AreAllHeld case.now (D.view desk.old) self.old }
+        requires covers { interval_of case.now.topology name.now ≡ Some interval }
+        requires part { name.now.part < parts_of case.now.topology }
+        requires there { IsSome (held_at self.old interval) }
+        requires may { IfSome (held_at self.old interval) (λ held. MayPut (D.view desk.old)
+            name.now (row_held case.now.topology held name.now) writing) }
+
+        ensures fits { AreAllHeld case.now (D.view desk.new) self.new }
+        ensures put { IfOk result (λ commit.
+            HoldsEntry case.now.topology interval name.now commit
+            (λ lease row answer. HasPut (D.view desk.old) (D.view desk.new) lease name.now
+            writing.entry row answer) self.old self.new) }
+
+        ensures kept { OnErr result (KeepsHeld case.now.topology self.old self.new) }
+        ensures looked { OnErr result (HasLooked (D.view desk.old) (D.view desk.new)) }
+        ensures reason { IfErr result
+            (IsRefusedOf (D.view desk.old) (D.view desk.new) self.old interval) }
+        ensures marks { KeepsMarks (D.view desk.old) (D.view desk.new) }
+        ensures loan { D.loan desk.new ≡ D.loan desk.old }
+        ensures home { D.home desk.new ≡ D.home desk.old }
+    {
         desk.sound();
         self.ready(alloc, case, interval, name)?;
         let place = &mut self.all[interval as usize];
-        let written = purge_at(place, alloc, desk, name, floor);
+        let written = put_at(place, alloc, desk, name, writing);
         desk.sound();
         written
     }
 }
 
-// Writes a row that is cached in a place where something is held.
-fn write_at<D: Desk>(
+// Writes into a row that is cached in a place where something is held.
+fn put_at<D: Desk>(
     place: &mut Option<Held>,
     alloc: Global,
     desk: &mut D,
     name: &RowName,
-    proposal: &Proposal,
+    writing: Writing<'_>,
 ) -> Result<u64, DeskRefusal>
     requires held { IsSome place.old }
     requires there { IfSome place.old (λ held. IsSome (row_in (cached held.rows) name.now)) }
     requires lease { IfSome place.old (λ held. MayAsk (D.view desk.old) held.lease name.now) }
     requires row { IfSome place.old (λ held. IfSome (row_in (cached held.rows) name.now)
         (IsRowKnown (D.view desk.old) held.lease name.now)) }
-    requires proposal { IfSome place.old (λ held. IfSome (row_in (cached held.rows) name.now)
-        (λ row. IsProposable (D.view desk.old).case name.now row proposal.now)) }
-    requires known { IsKnownOf (D.view desk.old) name.now proposal.now }
+    requires may { IfSome place.old (λ held. IfSome (row_in (cached held.rows) name.now)
+        (λ row. MayPut (D.view desk.old) name.now row writing)) }
 
-    ensures written { IfOk result (λ commit. IfSome place.old (λ held. HasPutAt name.now
-        (λ row left. HasWritten (D.view desk.old) (D.view desk.new) held.lease name.now
-        proposal.now row (answer_of commit left)) held place.new)) }
+    ensures put { IfOk result (λ commit. IfSome place.old (λ held. IsRewrittenAt name.now
+        (λ row left. HasPut (D.view desk.old) (D.view desk.new) held.lease name.now
+        writing.entry row (answer_of commit left)) held place.new)) }
 
     ensures kept { OnErr result (place.new ≡ place.old) }
     ensures looked { OnErr result (HasLooked (D.view desk.old) (D.view desk.new)) }
@@ -183,79 +210,7 @@ fn write_at<D: Desk>(
     ensures home { D.home desk.new ≡ D.home desk.old }
 {
     match place {
-        Some(held) => held.write(alloc, desk, name, proposal),
-        None => Err(DeskRefusal::NoMemory),
-    }
-}
-
-// Settles an id of a row that is cached in a place where something is held.
-fn settle_at<D: Desk>(
-    place: &mut Option<Held>,
-    alloc: Global,
-    desk: &mut D,
-    name: &RowName,
-    id: RecordId,
-) -> Result<u64, DeskRefusal>
-    requires held { IsSome place.old }
-    requires there { IfSome place.old (λ held. IsSome (row_in (cached held.rows) name.now)) }
-    requires lease { IfSome place.old (λ held. MayAsk (D.view desk.old) held.lease name.now) }
-    requires row { IfSome place.old (λ held. IfSome (row_in (cached held.rows) name.now)
-        (IsRowKnown (D.view desk.old) held.lease name.now)) }
-    requires id { IfSome place.old (λ held. IfSome (row_in (cached held.rows) name.now)
-        (λ row. MaySettle (D.view desk.old).told (D.view desk.old).seen row id)) }
-
-    ensures settled { IfOk result (λ commit. IfSome place.old (λ held.
-        let entry = Ack held.lease.seq name.now id in HasPutAt name.now
-        (λ row left. HasStored (D.view desk.old) (D.view desk.new) held.lease name.now
-        entry row (λ number. written_row number entry [] row) (answer_of commit left))
-        held place.new)) }
-
-    ensures kept { OnErr result (place.new ≡ place.old) }
-    ensures looked { OnErr result (HasLooked (D.view desk.old) (D.view desk.new)) }
-    ensures reason { IfErr result (λ why. IfSome place.old (λ held.
-        HasReason (D.view desk.old) (D.view desk.new) held.lease why)) }
-    ensures marks { KeepsMarks (D.view desk.old) (D.view desk.new) }
-    ensures loan { D.loan desk.new ≡ D.loan desk.old }
-    ensures home { D.home desk.new ≡ D.home desk.old }
-{
-    match place {
-        Some(held) => held.settle(alloc, desk, name, id),
-        None => Err(DeskRefusal::NoMemory),
-    }
-}
-
-// Purges a row that is cached in a place where something is held.
-fn purge_at<D: Desk>(
-    place: &mut Option<Held>,
-    alloc: Global,
-    desk: &mut D,
-    name: &RowName,
-    floor: u64,
-) -> Result<u64, DeskRefusal>
-    requires held { IsSome place.old }
-    requires there { IfSome place.old (λ held. IsSome (row_in (cached held.rows) name.now)) }
-    requires lease { IfSome place.old (λ held. MayAsk (D.view desk.old) held.lease name.now) }
-    requires row { IfSome place.old (λ held. IfSome (row_in (cached held.rows) name.now)
-        (IsRowKnown (D.view desk.old) held.lease name.now)) }
-    requires floor { IfSome place.old (λ held. IfSome (row_in (cached held.rows) name.now)
-        (λ row. IsPurgeKnown (D.view desk.old) name.now row floor)) }
-
-    ensures purged { IfOk result (λ commit. IfSome place.old (λ held.
-        let entry = Purge held.lease.seq name.now floor in HasPutAt name.now
-        (λ row left. HasStored (D.view desk.old) (D.view desk.new) held.lease name.now
-        entry row (λ number. written_row number entry [] row) (answer_of commit left))
-        held place.new)) }
-
-    ensures kept { OnErr result (place.new ≡ place.old) }
-    ensures looked { OnErr result (HasLooked (D.view desk.old) (D.view desk.new)) }
-    ensures reason { IfErr result (λ why. IfSome place.old (λ held.
-        HasReason (D.view desk.old) (D.view desk.new) held.lease why)) }
-    ensures marks { KeepsMarks (D.view desk.old) (D.view desk.new) }
-    ensures loan { D.loan desk.new ≡ D.loan desk.old }
-    ensures home { D.home desk.new ≡ D.home desk.old }
-{
-    match place {
-        Some(held) => held.purge(alloc, desk, name, floor),
-        None => Err(DeskRefusal::NoMemory),
+        Some(held) => held.put(alloc, desk, name, writing),
+        None => unreachable!(),
     }
 }

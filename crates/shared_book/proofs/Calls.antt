@@ -1,10 +1,10 @@
 -- What a call of a book in a turn leaves, for the seat that has the turn.
-use Rattle.std.proofs.Common.{◌≡◌, ℕ, ◌≤◌, List, [], ◌∷◌, ◌++◌, length, Option, Some, None, sym, ap, ◌∙◌, subst, arith}
+use Rattle.std.proofs.Common.{◌≡◌, ℕ, ◌≤◌, List, [], ◌∷◌, ◌++◌, length, Option, Some, None, refl, sym, ap, ◌∙◌, subst, arith}
 use Rattle.std.specs.Prelude.{IfSome, Result, take}
 use Rattle.std.proofs.lemmas.List.{take_all}
 use Rattle.mw_types.specs.Causes.{Rose}
 use Rattle.mw_types.specs.declared.entry.Entry.{Entry}
-use Rattle.mw_types.specs.declared.entry.Entry.TheVariants.{Claim}
+use Rattle.mw_types.specs.declared.entry.Entry.TheVariants.{Claim, Ack, Purge}
 use Rattle.mw_types.specs.declared.identity.RecordId.{RecordId}
 use Rattle.mw_types.specs.declared.identity.RowName.{RowName}
 use Rattle.row_parts.specs.Contents.{Contents}
@@ -18,7 +18,8 @@ use Rattle.book.specs.Answers.{IsSameBook, IsStaleWhere, IsWritten}
 use Rattle.book.specs.Claims.{AreRowsOf, IsDamaged, IsDamagedRow}
 use Rattle.book.specs.Conditions.{IsRowOf, IsRowSeen, IsRowSeenAt, MayForget, MayForgetAt, MaySettle, MaySettleAt, MayUseAt}
 use Rattle.book.specs.OwnDesks.{telling}
-use Rattle.book.specs.Proposals.{IsProposedOf, IsEntryOf, IsWrittenBy}
+use Rattle.book.specs.Proposals.{IsProposable, IsProposedOf, IsEntryOf, IsWrittenBy}
+use Rattle.book.specs.Writings.{IsPut, MayPutAt}
 use Rattle.book.specs.declared.answers.Written.{Written}
 use Rattle.book.specs.declared.answers.Claimed.{Claimed}
 use Rattle.book.specs.declared.refusals.ClaimRefusal.{ClaimRefusal}
@@ -26,13 +27,15 @@ use Rattle.book.specs.declared.refusals.ClaimRefusal.TheVariants as claims
 use Rattle.book.specs.declared.proposal.Proposal.{Proposal}
 use Rattle.book.specs.declared.proposal.Proposal.TheVariants as proposals
 use Rattle.book.specs.declared.refusals.WriteRefusal.{WriteRefusal}
+use Rattle.book.specs.declared.writing.Writing.{Writing}
+use Rattle.book.specs.declared.writing.Writing.TheVariants as writings
 use Rattle.book.proofs.DeskLaws.{telling-if, if-telling, telling-same, IsWritten-telling, IsWrittenBy-telling, AreRowsOf-telling, IsDamagedRow-telling}
 use Rattle.book.proofs.OwnLaws.{claimed-is_claimed, may-use, may-settle, row-seen}
 use Rattle.shared_book.specs.declared.views.View.{View}
 use Rattle.shared_book.specs.Lists.{IsIn}
 use Rattle.shared_book.specs.FenceLaw.{IsCore, AreClaimed, sequencers}
 use Rattle.shared_book.specs.Steps.{SeatView, IsOwnEntry, grown}
-use Rattle.shared_book.specs.Turns.{HasClaimedIn, HasStoredIn, HasWrittenIn, IsGrown, MayWrite, IsRowHeld, IsProposedIn}
+use Rattle.shared_book.specs.Turns.{HasClaimedIn, HasPutIn, HasStoredIn, HasWrittenIn, IsGrown, MayPutIn, MayWrite, IsRowHeld, IsProposedIn}
 use Rattle.shared_book.proofs.Histories.{seq_of_lease}
 
 -- a claim carries no sequencer
@@ -51,6 +54,26 @@ pub entry_carries : (case : CaseShape) (seq : ℕ) (name : RowName) (proposal : 
 entry_carries case seq name (proposals.Inject line) entry is = ap sequencer_of is.1.1
 entry_carries case seq name (proposals.Handle delivery effects) entry is = ap sequencer_of is
 entry_carries case seq name (proposals.Fire timer mark effects) entry is = ap sequencer_of is
+
+-- one entry was appended, which carries this sequencer
+pub record HasAppended (before after : List Entry) (seq : ℕ) : Type 0 where
+  pub entry : Entry
+  pub appended : after ≡ before ++ entry ∷ []
+  pub carries : sequencer_of entry ≡ Some seq
+
+-- whatever was put appended one under its lease
+pub put_entry : {X : Type 0} (case : CaseShape) (told : Option X) (before after : List Entry) (lease : LeaseView) (name : RowName)
+    (writing : Writing) (row : Contents) (answer : Written) → IsPut case told before after lease name writing row answer
+    → HasAppended before after lease.seq
+put_entry case told before after lease name (writings.Propose proposal) row answer put = record {
+  entry = put.entry;
+  appended = put.written.appended;
+  carries = entry_carries case lease.seq name proposal.now put.entry put.of_proposal;
+}
+put_entry case told before after lease name (writings.Settle id) row answer put =
+    record { entry = Ack lease.seq name id; appended = put.appended; carries = refl }
+put_entry case told before after lease name (writings.Purge floor) row answer put =
+    record { entry = Purge lease.seq name floor; appended = put.appended; carries = refl }
 
 -- a seat's view, the book that it took out, and what is known of the two
 module _ (v : View) (a : CoreView) (old : BookView) (z : CaseShape) (core : IsCore v.basis v.front v.count a)
@@ -92,7 +115,7 @@ module _ (v : View) (a : CoreView) (old : BookView) (z : CaseShape) (core : IsCo
   take_seen front whole = take_all front old.history (omega (arith, whole)) ∙ seen_history
 
   -- what is proposed was made in what was seen, or is due by it
-  pub proposed_held : (front : ℕ) (name : RowName) (proposal : Proposal) → front ≡ length old.history
+  proposed_held : (front : ℕ) (name : RowName) (proposal : Proposal) → front ≡ length old.history
       → IsProposedIn v name proposal
       → IfSome old.rows (λ _. IsProposedOf old.case name proposal (run_of old.case.topology (take front old.history)))
   proposed_held front name proposal whole held = if-telling old.rows _
@@ -101,13 +124,13 @@ module _ (v : View) (a : CoreView) (old : BookView) (z : CaseShape) (core : IsCo
       (λ i. (sym seen_case i, sym seen_told i, sym (take_seen front whole) i)) held)
 
   -- an id may be settled by what was seen
-  pub settle_held : (front : ℕ) (row : Contents) (id : RecordId) → front ≡ length old.history
+  settle_held : (front : ℕ) (row : Contents) (id : RecordId) → front ≡ length old.history
       → MaySettle v.basis.told v.front row id → MaySettleAt old front row id
   settle_held front row id whole may = may-settle old front row id whole
       (subst (λ (t : Option Unit × List Entry). MaySettle t.0 t.1 row id) (λ i. (sym seen_told i, sym seen_history i)) may)
 
   -- a row may forget ids by what was seen
-  pub forget_held : (front : ℕ) (name : RowName) (row : Contents) (floor : ℕ) → front ≡ length old.history
+  forget_held : (front : ℕ) (name : RowName) (row : Contents) (floor : ℕ) → front ≡ length old.history
       → MayForget v.basis.case v.basis.told v.front name row floor → MayForgetAt old front name row floor
   forget_held front name row floor whole may =
       let told = subst (λ (t : CaseShape × Option Unit × List Entry). MayForget t.0 t.1 t.2 name row floor)
@@ -118,6 +141,16 @@ module _ (v : View) (a : CoreView) (old : BookView) (z : CaseShape) (core : IsCo
         there = if-telling old.rows _ told.there;
         finished = if-telling old.rows _ told.finished;
       }
+
+  -- what is to be written may be by what was seen
+  pub may_held : (front : ℕ) (name : RowName) (row : Contents) (writing : Writing) → front ≡ length old.history
+      → MayPutIn v name row writing → MayPutAt old front name row writing
+  may_held front name row (writings.Propose proposal) whole may = (
+    subst (λ (c : CaseShape). IsProposable c name row proposal.now) (sym seen_case) may.0,
+    proposed_held front name proposal.now whole may.1,
+  )
+  may_held front name row (writings.Settle id) whole may = settle_held front row id whole may
+  may_held front name row (writings.Purge floor) whole may = forget_held front name row floor whole may
 
   -- a write that is stale by the book's history is stale by what was seen
   pub stale_seen : {T : Type 0} (lease : LeaseView) (r t : Result T WriteRefusal) → r ≡ t → IsStaleWhere old.history lease r
@@ -198,7 +231,7 @@ module _ (v : View) (a : CoreView) (old : BookView) (z : CaseShape) (core : IsCo
     grown_front next e = sym (ap (λ (x : View). x.front) e ∙ ap (λ (b : CoreView). b.history) parts)
 
     -- what was written of a proposal, as the seat knows it
-    pub written_in : (next : View) (lease : LeaseView) (name : RowName) (proposal : Proposal) (row : Contents) (answer : Written)
+    written_in : (next : View) (lease : LeaseView) (name : RowName) (proposal : Proposal) (row : Contents) (answer : Written)
         → next ≡ grown v c.history → IsRowOf old.case old.rows old.history name row
         → IsWrittenBy old.case old.rows old.history new.history lease name proposal row answer
         → HasWrittenIn v next lease name proposal row answer
@@ -212,7 +245,7 @@ module _ (v : View) (a : CoreView) (old : BookView) (z : CaseShape) (core : IsCo
     }
 
     -- what was written of an entry, as the seat knows it
-    pub stored_in : (next : View) (lease : LeaseView) (name : RowName) (entry : Entry) (row : Contents) (answer : Written)
+    stored_in : (next : View) (lease : LeaseView) (name : RowName) (entry : Entry) (row : Contents) (answer : Written)
         → next ≡ grown v c.history → IsRowOf old.case old.rows old.history name row
         → IsWritten old.case old.rows old.history new.history lease name entry
         (written_row (length old.history) entry [] row) answer
@@ -226,6 +259,18 @@ module _ (v : View) (a : CoreView) (old : BookView) (z : CaseShape) (core : IsCo
           (IsWritten-telling old.case old.rows old.history new.history lease name entry
           (written_row (length old.history) entry [] row) answer by);
     }
+
+    -- whatever was put, as the seat knows it
+    pub put_in : (next : View) (lease : LeaseView) (name : RowName) (writing : Writing) (row : Contents) (answer : Written)
+        → next ≡ grown v c.history → IsRowOf old.case old.rows old.history name row
+        → IsPut old.case old.rows old.history new.history lease name writing row answer
+        → HasPutIn v next lease name writing row answer
+    put_in next lease name (writings.Propose proposal) row answer e found put =
+        written_in next lease name proposal.now row answer e found put
+    put_in next lease name (writings.Settle id) row answer e found put =
+        stored_in next lease name (Ack lease.seq name id) row answer e found put
+    put_in next lease name (writings.Purge floor) row answer e found put =
+        stored_in next lease name (Purge lease.seq name floor) row answer e found put
 
     -- what was claimed, as the seat knows it
     pub claimed_in : (next : View) (worker interval : ℕ) (answer : Claimed) → next ≡ grown v c.history

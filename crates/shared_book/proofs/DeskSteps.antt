@@ -4,7 +4,7 @@ use Rattle.std.specs.Prelude.{◌↔◌, Err, IfErr, IfOk, IsErrOf, None, Ok, Re
 use Rattle.std.proofs.lemmas.List.{append-nil}
 use Rattle.mw_types.specs.Causes.{HasCause, Rose}
 use Rattle.mw_types.specs.declared.entry.Entry.{Entry}
-use Rattle.mw_types.specs.declared.entry.Entry.TheVariants.{Claim}
+use Rattle.mw_types.specs.declared.entry.Entry.TheVariants.{Claim, Ack, Purge}
 use Rattle.mw_types.specs.declared.identity.RowName.{RowName}
 use Rattle.row_keeper.specs.Rows.{Rows}
 use Rattle.row_parts.specs.Contents.{Contents}
@@ -22,6 +22,7 @@ use Rattle.book.specs.DeskReasons.{HasClaimReason, HasReason, IsDamageOf, of_cla
 use Rattle.book.specs.Desking.{HasClaimed, HasStored, HasWritten}
 use Rattle.book.specs.Desks.{HasLooked, HasMoved, KeepsMarks, numbers_from}
 use Rattle.book.specs.Proposals.{IsWrittenBy}
+use Rattle.book.specs.Writings.{HasPut}
 use Rattle.book.specs.declared.answers.Claimed.{Claimed}
 use Rattle.book.specs.declared.answers.Written.{Written}
 use Rattle.book.specs.declared.desk_refusal.DeskRefusal.TheVariants as refusals
@@ -30,6 +31,8 @@ use Rattle.book.specs.declared.refusals.ClaimRefusal.{ClaimRefusal}
 use Rattle.book.specs.declared.refusals.ClaimRefusal.TheVariants as claims
 use Rattle.book.specs.declared.refusals.WriteRefusal.{WriteRefusal}
 use Rattle.book.specs.declared.refusals.WriteRefusal.TheVariants as writes
+use Rattle.book.specs.declared.writing.Writing.{Writing}
+use Rattle.book.specs.declared.writing.Writing.TheVariants as writings
 use Rattle.book.proofs.Numbers.{numbers_from-one, own-stays}
 use Rattle.book.proofs.OwnReasons.{claim-reason, reason}
 use Rattle.book.proofs.OwnLaws.{none-carried}
@@ -38,7 +41,7 @@ use Rattle.shared_book.specs.declared.views.View.{View}
 use Rattle.shared_book.specs.MarkSteps.{released}
 use Rattle.shared_book.specs.SharedDesks.{is_held, shared_view}
 use Rattle.shared_book.specs.Steps.{SeatView, grown, lease_in, missing}
-use Rattle.shared_book.specs.Turns.{HasClaimedIn, HasFaulted, HasStoredIn, HasTaken, HasWrittenIn}
+use Rattle.shared_book.specs.Turns.{HasClaimedIn, HasFaulted, HasPutIn, HasStoredIn, HasTaken, HasWrittenIn}
 use Rattle.shared_book.proofs.Held.{held-in, held-more, in-held}
 use Rattle.shared_book.proofs.Lists.{drop_front, in_right}
 use Rattle.shared_book.proofs.Moves.{off}
@@ -91,18 +94,6 @@ claim-reason-busy v found = record {
     busy = λ n e. ap (λ k. v.missed ++ k ∷ []) (busy-number found n e);
   };
   damaged = tt;
-}
-
--- there was no memory for a copy of the row, and nothing was tried
-pub reason-memory : (v : View) (lease : LeaseView) → HasReason (shared_view v) (shared_view v) lease refusals.NoMemory
-reason-memory v lease = record {
-  stale = λ decided. absurd decided;
-  full = λ decided. absurd decided;
-  counts = record {
-    keeper = λ e. absurd cc;
-    busy = λ n e. absurd cc;
-  };
-  no_row = tt;
 }
 
 -- the same, of the seat
@@ -272,7 +263,7 @@ module _ (v t w : View) (taken : HasTaken v t) (basis : w.basis ≡ t.basis) whe
       ∙ ap (λ l. t.own ++ l) (sym (numbers_from-one t.front w.front entry appended))
 
   -- an entry was stored
-  pub stored : (lease : LeaseView) (name : RowName) (entry : Entry) (row : Contents) (answer : Written)
+  stored : (lease : LeaseView) (name : RowName) (entry : Entry) (row : Contents) (answer : Written)
       → HasStoredIn t w lease name entry row answer
       → HasStored (shared_view v) (shared_view (released w)) lease name entry row (λ commit. written_row commit entry [] row) answer
   stored lease name entry row answer is = record {
@@ -285,7 +276,7 @@ module _ (v t w : View) (taken : HasTaken v t) (basis : w.basis ≡ t.basis) whe
   }
 
   -- a proposal was written
-  pub written-by : (lease : LeaseView) (name : RowName) (proposal : Proposal) (row : Contents) (answer : Written)
+  written-by : (lease : LeaseView) (name : RowName) (proposal : Proposal) (row : Contents) (answer : Written)
       → HasWrittenIn t w lease name proposal row answer
       → HasWritten (shared_view v) (shared_view (released w)) lease name proposal row answer
   written-by lease name proposal row answer is = record {
@@ -296,6 +287,14 @@ module _ (v t w : View) (taken : HasTaken v t) (basis : w.basis ≡ t.basis) whe
     written = subst (λ (b : Basis). IsWrittenBy b.case b.told t.front w.front lease name proposal row answer)
         (basis-taken v t taken) is.written;
   }
+
+  -- whatever was put
+  pub put-of : (lease : LeaseView) (name : RowName) (writing : Writing) (row : Contents) (answer : Written)
+      → HasPutIn t w lease name writing row answer
+      → HasPut (shared_view v) (shared_view (released w)) lease name writing row answer
+  put-of lease name (writings.Propose proposal) row answer is = written-by lease name proposal.now row answer is
+  put-of lease name (writings.Settle id) row answer is = stored lease name (Ack lease.seq name id) row answer is
+  put-of lease name (writings.Purge floor) row answer is = stored lease name (Purge lease.seq name floor) row answer is
 
   -- an interval was claimed
   pub claimed : (worker interval : ℕ) (answer : Claimed) → HasClaimedIn t w worker interval answer

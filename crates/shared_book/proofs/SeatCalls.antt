@@ -18,12 +18,14 @@ use Rattle.book.specs.declared.refusals.ClaimRefusal.{ClaimRefusal}
 use Rattle.book.specs.declared.refusals.ClaimRefusal.TheVariants as claims
 use Rattle.book.specs.declared.refusals.WriteRefusal.{WriteRefusal}
 use Rattle.book.specs.declared.refusals.WriteRefusal.TheVariants as writes
+use Rattle.book.specs.declared.writing.Writing.{Writing}
+use Rattle.book.specs.declared.writing.Writing.TheVariants as writings
 use Rattle.shared_book.specs.declared.views.Settled.{Settled}
 use Rattle.shared_book.specs.declared.views.View.{View}
 use Rattle.shared_book.specs.Places.{PLACES, settled_by, settled_in}
 use Rattle.shared_book.specs.Settling.{AreSettled}
 use Rattle.shared_book.specs.Steps.{grown, lease_in}
-use Rattle.shared_book.specs.Turns.{HasClaimedIn, HasFaulted, HasStoredIn, HasWrittenIn}
+use Rattle.shared_book.specs.Turns.{HasClaimedIn, HasFaulted, HasPutIn, HasStoredIn, HasWrittenIn}
 use Rattle.shared_book.proofs.Calls.{entry_carries}
 use Rattle.shared_book.proofs.Lists.{drop_front}
 use Rattle.shared_book.proofs.SeatArrays.{HasArrays, arrays-claimed, arrays-moved, arrays-same}
@@ -89,38 +91,44 @@ arrays-back v out w settled marks claims inputs false was same fault has =
     arrays-is out w settled marks claims inputs (same refl) (arrays-is v out settled marks claims inputs was has)
 
 -- a proposal was written
-pub arrays-written : (v w : View) (settled : Bool) (marks claims inputs : List ℕ) (lease : LeaseView) (name : RowName) (proposal : Proposal) (row : Contents)
+arrays-written : (v w : View) (settled : Bool) (marks claims inputs : List ℕ) (lease : LeaseView) (name : RowName) (proposal : Proposal) (row : Contents)
     (answer : Written) → HasWrittenIn v w lease name proposal row answer → HasArrays v settled marks claims inputs → HasArrays w settled marks claims inputs
 arrays-written v w settled marks claims inputs lease name proposal row answer is =
     arrays-grown v w is.written.entry lease.seq settled marks claims inputs is.view is.written.written.appended
     (entry_carries v.basis.case lease.seq name proposal is.written.entry is.written.of_proposal)
 
 -- and an entry stored
-pub arrays-stored : (v w : View) (settled : Bool) (marks claims inputs : List ℕ) (lease : LeaseView) (name : RowName) (entry : Entry) (row : Contents)
+arrays-stored : (v w : View) (settled : Bool) (marks claims inputs : List ℕ) (lease : LeaseView) (name : RowName) (entry : Entry) (row : Contents)
     (answer : Written) → sequencer_of entry ≡ Some lease.seq → HasStoredIn v w lease name entry row answer
     → HasArrays v settled marks claims inputs → HasArrays w settled marks claims inputs
 arrays-stored v w settled marks claims inputs lease name entry row answer carries is =
     arrays-grown v w entry lease.seq settled marks claims inputs is.view is.written.appended carries
 
--- a write came to its end, on a row where it lies
-pub arrays-write : (v w : View) (settled : Bool) (marks claims inputs : List ℕ) (lease : LeaseView) (name : RowName) (proposal : Proposal) (row left : Contents)
-    (r : Result ℕ WriteRefusal) → IfOk r (λ commit. HasWrittenIn v w lease name proposal row (answer_of commit left))
-    → (IsErrOf r writes.KeeperFault → HasFaulted v w) → IfErr r (λ why. (why ≢ writes.KeeperFault) → w ≡ v)
-    → HasArrays v settled marks claims inputs → HasArrays w settled marks claims inputs
-arrays-write v w settled marks claims inputs lease name proposal row left (Ok commit) ok fault same =
-    arrays-written v w settled marks claims inputs lease name proposal row (answer_of commit left) ok
-arrays-write v w settled marks claims inputs lease name proposal row left (Err why) ok fault same =
-    arrays-refused v w settled marks claims inputs why fault same
+-- whatever was put, the entry is the seat's own
+pub put-view : (v w : View) (lease : LeaseView) (name : RowName) (writing : Writing) (row : Contents) (answer : Written)
+    → HasPutIn v w lease name writing row answer → w ≡ grown v w.front
+put-view v w lease name (writings.Propose proposal) row answer is = is.view
+put-view v w lease name (writings.Settle id) row answer is = is.view
+put-view v w lease name (writings.Purge floor) row answer is = is.view
 
--- and so one that stores
-pub arrays-store : (v w : View) (settled : Bool) (marks claims inputs : List ℕ) (lease : LeaseView) (name : RowName) (entry : Entry) (row left : Contents)
-    (r : Result ℕ WriteRefusal) → sequencer_of entry ≡ Some lease.seq
-    → IfOk r (λ commit. HasStoredIn v w lease name entry row (answer_of commit left))
+-- and the arrays are those of the view
+pub arrays-put_at : (v w : View) (settled : Bool) (marks claims inputs : List ℕ) (lease : LeaseView) (name : RowName) (writing : Writing) (row : Contents)
+    (answer : Written) → HasPutIn v w lease name writing row answer → HasArrays v settled marks claims inputs → HasArrays w settled marks claims inputs
+arrays-put_at v w settled marks claims inputs lease name (writings.Propose proposal) row answer is =
+    arrays-written v w settled marks claims inputs lease name proposal.now row answer is
+arrays-put_at v w settled marks claims inputs lease name (writings.Settle id) row answer is =
+    arrays-stored v w settled marks claims inputs lease name (Ack lease.seq name id) row answer refl is
+arrays-put_at v w settled marks claims inputs lease name (writings.Purge floor) row answer is =
+    arrays-stored v w settled marks claims inputs lease name (Purge lease.seq name floor) row answer refl is
+
+-- a write came to its end, on a row where it lies
+pub arrays-put : (v w : View) (settled : Bool) (marks claims inputs : List ℕ) (lease : LeaseView) (name : RowName) (writing : Writing) (row left : Contents)
+    (r : Result ℕ WriteRefusal) → IfOk r (λ commit. HasPutIn v w lease name writing row (answer_of commit left))
     → (IsErrOf r writes.KeeperFault → HasFaulted v w) → IfErr r (λ why. (why ≢ writes.KeeperFault) → w ≡ v)
     → HasArrays v settled marks claims inputs → HasArrays w settled marks claims inputs
-arrays-store v w settled marks claims inputs lease name entry row left (Ok commit) carries ok fault same =
-    arrays-stored v w settled marks claims inputs lease name entry row (answer_of commit left) carries ok
-arrays-store v w settled marks claims inputs lease name entry row left (Err why) carries ok fault same =
+arrays-put v w settled marks claims inputs lease name writing row left (Ok commit) ok fault same =
+    arrays-put_at v w settled marks claims inputs lease name writing row (answer_of commit left) ok
+arrays-put v w settled marks claims inputs lease name writing row left (Err why) ok fault same =
     arrays-refused v w settled marks claims inputs why fault same
 
 -- a claim was refused

@@ -25,9 +25,12 @@ use Rattle.book.specs.Desking.{IsKnownOf, IsPurgeKnown, IsRowKnown, MayAsk}
 use Rattle.book.specs.Lawful.{IsLawful}
 use Rattle.book.specs.Marks.{AreSafe, AreUnderLow}
 use Rattle.book.specs.OwnDesks.{telling}
-use Rattle.book.specs.Proposals.{IsProposedOf}
+use Rattle.book.specs.Proposals.{IsProposable, IsProposedOf}
+use Rattle.book.specs.Writings.{MayPut}
 use Rattle.book.specs.declared.proposal.Proposal.{Proposal}
 use Rattle.book.specs.declared.proposal.Proposal.TheVariants as proposals
+use Rattle.book.specs.declared.writing.Writing.{Writing}
+use Rattle.book.specs.declared.writing.Writing.TheVariants as writings
 use Rattle.watermark.proofs.SafeMarks.{are-under_low}
 use Rattle.book.proofs.SeenRows.{part-there, told-both, told-then}
 use Rattle.shared_book.specs.declared.views.Basis.{Basis}
@@ -35,7 +38,7 @@ use Rattle.shared_book.specs.declared.views.View.{View}
 use Rattle.shared_book.specs.FenceLaw.{IsCore}
 use Rattle.shared_book.specs.Lists.{IsIn}
 use Rattle.shared_book.specs.SharedDesks.{shared_view}
-use Rattle.shared_book.specs.Turns.{HasTaken, IsProposedIn, IsRowHeld, MayWrite}
+use Rattle.shared_book.specs.Turns.{HasTaken, IsProposedIn, IsRowHeld, MayPutIn, MayWrite}
 use Rattle.shared_book.proofs.Appending.{lawful_legal}
 use Rattle.shared_book.proofs.Held.{held-in}
 use Rattle.shared_book.proofs.LawSteps.{floor-few}
@@ -110,7 +113,7 @@ module _ (v t : View) (taken : HasTaken v t) where
       shape = v.basis.case.topology
 
   -- an id may be settled
-  pub settle-taken : (row : Contents) (id : RecordId) → MaySettle v.basis.told v.front row id → MaySettle t.basis.told t.front row id
+  settle-taken : (row : Contents) (id : RecordId) → MaySettle v.basis.told v.front row id → MaySettle t.basis.told t.front row id
   settle-taken row id may =
       subst (λ (p : Basis × List Entry). MaySettle p.0.told p.1 row id) (λ i. (sym basis-taken i, taken.goes_on i)) (record {
         pending = may.pending;
@@ -119,7 +122,7 @@ module _ (v t : View) (taken : HasTaken v t) where
       })
 
   -- ids may be forgotten
-  pub forget-taken : (b : CoreView) (name : RowName) (row : Contents) (floor : ℕ) → b.history ≡ t.front → IsLawful v.basis.case b
+  forget-taken : (b : CoreView) (name : RowName) (row : Contents) (floor : ℕ) → b.history ≡ t.front → IsLawful v.basis.case b
       → IsPurgeKnown (shared_view v) name row floor → MayForget t.basis.case t.basis.told t.front name row floor
   forget-taken b name row floor same lawful may =
       subst (λ (p : Basis). MayForget p.case p.told t.front name row floor) (sym basis-taken) (record {
@@ -137,7 +140,7 @@ module _ (v t : View) (taken : HasTaken v t) where
       below = let at_most = may.known in let low = taken.floor in omega (arith, at_most, low)
 
   -- what is proposed was made, or is due
-  pub proposed-taken : (b : CoreView) (lease : LeaseView) (name : RowName) (row : Contents) (proposal : Proposal)
+  proposed-taken : (b : CoreView) (lease : LeaseView) (name : RowName) (row : Contents) (proposal : Proposal)
       → b.history ≡ t.front → telling b.rows ≡ v.basis.told → IsLawful v.basis.case b → length v.marks ≡ 61
       → IsRowKnown (shared_view v) lease name row → IsKnownOf (shared_view v) name proposal → IsProposedIn t name proposal
   proposed-taken b lease name row proposal same told lawful long row_is proposed =
@@ -163,3 +166,14 @@ module _ (v t : View) (taken : HasTaken v t) where
             due = so.due;
             under_watermark = omega (arith, least, marks);
           })
+
+  -- what is to be written may be
+  pub may-taken : (b : CoreView) (lease : LeaseView) (name : RowName) (row : Contents) (writing : Writing)
+      → b.history ≡ t.front → telling b.rows ≡ v.basis.told → IsLawful v.basis.case b → length v.marks ≡ 61
+      → IsRowKnown (shared_view v) lease name row → MayPut (shared_view v) name row writing → MayPutIn t name row writing
+  may-taken b lease name row (writings.Propose proposal) same told lawful long row_is may = (
+    subst (λ (x : Basis). IsProposable x.case name row proposal.now) (sym basis-taken) may.0,
+    proposed-taken b lease name row proposal.now same told lawful long row_is may.1,
+  )
+  may-taken b lease name row (writings.Settle id) same told lawful long row_is may = settle-taken row id may
+  may-taken b lease name row (writings.Purge floor) same told lawful long row_is may = forget-taken b name row floor same lawful may

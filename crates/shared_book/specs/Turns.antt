@@ -5,7 +5,7 @@ use Rattle.atomic_table.specs.Seated.{TableId}
 use Rattle.atomic_table.specs.declared.shared.Seat.{Seat}
 use Rattle.mw_types.specs.Causes.{Rose}
 use Rattle.mw_types.specs.declared.entry.Entry.{Entry}
-use Rattle.mw_types.specs.declared.entry.Entry.TheVariants.{Claim}
+use Rattle.mw_types.specs.declared.entry.Entry.TheVariants.{Claim, Ack, Purge}
 use Rattle.mw_types.specs.declared.identity.RowName.{RowName}
 use Rattle.run_history.specs.Cases.{CaseShape, intervals_of}
 use Rattle.run_history.specs.Legal.{floor_of}
@@ -19,11 +19,13 @@ use Rattle.book.specs.Marks.{AreSafe}
 use Rattle.book.specs.OwnDesks.{telling}
 use Rattle.book.specs.Answers.{IsWritten}
 use Rattle.book.specs.Claims.{AreRowsOf}
-use Rattle.book.specs.Conditions.{IsRowOf, IsRowSeen}
-use Rattle.book.specs.Proposals.{IsProposedOf, IsWrittenBy}
+use Rattle.book.specs.Conditions.{IsRowOf, IsRowSeen, MayForget, MaySettle}
+use Rattle.book.specs.Proposals.{IsProposable, IsProposedOf, IsWrittenBy}
 use Rattle.book.specs.declared.answers.Claimed.{Claimed}
 use Rattle.book.specs.declared.answers.Written.{Written}
 use Rattle.book.specs.declared.proposal.Proposal.{Proposal}
+use Rattle.book.specs.declared.writing.Writing.{Writing}
+use Rattle.book.specs.declared.writing.Writing.TheVariants as writings
 use Rattle.shared_book.specs.declared.views.View.{View}
 use Rattle.shared_book.specs.Lists.{IsIn, Ascends}
 use Rattle.shared_book.specs.FenceLaw.{Slot, IsCore, AreClaimed}
@@ -105,6 +107,13 @@ abbrev pub IsProposedIn : View → RowName → Proposal → Type 0
 IsProposedIn v name proposal = IfSome v.basis.told
     (λ _. IsProposedOf v.basis.case name proposal (run_of v.basis.case.topology v.front))
 
+-- this may be written of a row, by what the seat has seen
+abbrev pub MayPutIn : View → RowName → Contents → Writing → Type 0
+MayPutIn v name row (writings.Propose proposal) =
+    IsProposable v.basis.case name row proposal.now × IsProposedIn v name proposal.now
+MayPutIn v name row (writings.Settle id) = MaySettle v.basis.told v.front row id
+MayPutIn v name row (writings.Purge floor) = MayForget v.basis.case v.basis.told v.front name row floor
+
 -- ---- what a call in a turn answers
 
 -- a claim was accepted: its entry is the seat's own and the next of the history, its lease has the entry's
@@ -130,6 +139,16 @@ pub record HasStoredIn (old new : View) (lease : LeaseView) (name : RowName) (en
   pub found : IsRowOf old.basis.case old.basis.told old.front name row
   pub written : IsWritten old.basis.case old.basis.told old.front new.front lease name entry
       (written_row (length old.front) entry [] row) answer
+
+-- this was written of a row: its entry is the seat's own and the next of the history, and found the row that was
+-- handed in
+abbrev pub HasPutIn : View → View → LeaseView → RowName → Writing → Contents → Written → Type 0
+HasPutIn old new lease name (writings.Propose proposal) row answer =
+    HasWrittenIn old new lease name proposal.now row answer
+HasPutIn old new lease name (writings.Settle id) row answer =
+    HasStoredIn old new lease name (Ack lease.seq name id) row answer
+HasPutIn old new lease name (writings.Purge floor) row answer =
+    HasStoredIn old new lease name (Purge lease.seq name floor) row answer
 
 -- a book has one entry more than the seat has seen, which the seat may append. No public clause cites it
 pub record IsGrown (v : View) (book : CoreView) : Type 0 where

@@ -4,44 +4,42 @@ ghost use Rattle.mw_types.specs.Causes.{Rose};
 ghost use Rattle.run_history.specs.Legal.{floor_of};
 ghost use Rattle.run_history.specs.Runs.{run_of};
 ghost use Rattle.book.specs.Answers.{IsFullWhere, IsStaleWhere, answer_of};
-ghost use Rattle.book.specs.Proposals.{IsProposable};
 ghost use Rattle.book.specs.declared.refusals.WriteRefusal.TheVariants as refusals;
 ghost use Rattle.shared_book.specs.FenceLaw.{AreClaimed, IsCore};
-ghost use Rattle.shared_book.specs.Turns.{HasFaulted, HasTurn, HasWrittenIn, IsHere, IsOut, IsProposedIn, IsRowHeld, MayWrite};
+ghost use Rattle.shared_book.specs.Turns.{HasFaulted, HasPutIn, HasTurn, IsHere, IsOut, IsRowHeld, MayPutIn, MayWrite};
 
 use crate::shared::Shared;
 use crate::slots::{append, fault, home, out};
 use crate::views::View;
 use atomic_table::Seat as Place;
-use book::{Book, Core, Lease, Proposal, WriteRefusal};
+use book::{Book, Core, Lease, WriteRefusal, Writing};
 use mw_types::RowName;
 use row_keeper::Keeper;
 use row_parts::Row;
 use std::alloc::Global;
 
 // A write in a turn, on a row that is changed where it lies. It answers the floor of the history too.
-pub(crate) fn write_in<K: Keeper>(
+pub(crate) fn put_in<K: Keeper>(
     alloc: Global,
     shared: &Shared<'_, K>,
     place: &mut Place<Option<Core<K>>, View>,
     lease: &Lease,
     name: &RowName,
     row: &mut Row,
-    proposal: &Proposal,
+    writing: Writing<'_>,
 ) -> (Result<u64, WriteRefusal>, u64)
     requires here { IsHere shared.now.table.shared.table_id shared.now.case.now place.old }
     requires turn { HasTurn place.old.me }
     requires lease { MayWrite place.old.me.0 lease.now name.now }
     requires row { IsRowHeld place.old.me.0 lease.now name.now row.old }
-    requires proposal { IsProposable shared.now.case.now name.now row.old proposal.now }
-    requires seen { IsProposedIn place.old.me.0 name.now proposal.now }
+    requires may { MayPutIn place.old.me.0 name.now row.old writing }
 
     ensures here { IsHere shared.now.table.shared.table_id shared.now.case.now place.new }
     ensures turn { HasTurn place.new.me }
     ensures numbers { place.new.me.0.numbers ≡ place.old.me.0.numbers }
     ensures basis { place.new.me.0.basis ≡ place.old.me.0.basis }
-    ensures written { IfOk result.0 (λ commit. HasWrittenIn place.old.me.0 place.new.me.0
-        lease.now name.now proposal.now row.old (answer_of commit row.new)) }
+    ensures put { IfOk result.0 (λ commit. HasPutIn place.old.me.0 place.new.me.0
+        lease.now name.now writing.entry row.old (answer_of commit row.new)) }
     ensures row { OnErr result.0 (row.new ≡ row.old) }
     ensures stale { IsStaleWhere place.old.me.0.front lease.now result.0 }
     ensures full { IsFullWhere place.old.me.0.basis.limit place.old.me.0.front lease.now result.0 }
@@ -55,7 +53,7 @@ pub(crate) fn write_in<K: Keeper>(
     let core = out(shared, place);
     let mut book = Book::of(shared.case, core);
     let front = book.history().len() as u64;
-    let result = book.write_in(alloc, lease, front, name, row, proposal);
+    let result = book.put(alloc, lease, front, name, row, writing);
     let floor_after = book.floor();
     let (_case, core) = book.into_core();
     match result {

@@ -33,7 +33,6 @@ mod settling;
 mod shared;
 mod shared_desk;
 mod slots;
-mod storing;
 mod turn;
 mod turn_calls;
 mod views;

@@ -7,13 +7,13 @@ ghost use Rattle.shared_book.specs.Turns.{IsHere, IsIdle};
 use crate::beginning::begin;
 use crate::desk_claims::claim_once;
 use crate::desk_reports::{floor_once, mark_once, report_once};
-use crate::desk_writes::{purge_once, settle_once, write_once};
+use crate::desk_writes::put_once;
 use crate::meets::meet_once;
 use crate::seats::{Note, Seat};
 use crate::shared::Shared;
-use book::{Claimed, Desk, DeskRefusal, Lease, Proposal, Seen, Written};
+use book::{Claimed, Desk, DeskRefusal, Lease, Seen, Writing};
 use history_laws::case_is_runnable;
-use mw_types::{Duplicate, NoMemory, RecordId, RowName};
+use mw_types::RowName;
 use row_keeper::Keeper;
 use row_parts::Row;
 use std::alloc::Global;
@@ -85,103 +85,16 @@ impl<'s, 'a, K: Keeper> Desk for SharedDesk<'s, 'a, K> {
         claim_once(alloc, shared, self.seat, worker, interval)
     }
 
-    fn write(
-        &mut self,
-        alloc: Global,
-        lease: &Lease,
-        name: &RowName,
-        row: &Row,
-        proposal: &Proposal,
-    ) -> Result<Written, DeskRefusal> {
-        let mut left = match row.copy(alloc) {
-            Ok(left) => left,
-            Err(NoMemory) => return Err(DeskRefusal::NoMemory),
-        };
-        match self.write_in(alloc, lease, name, &mut left, proposal) {
-            Ok(commit) => Ok(Written { commit, row: left }),
-            Err(why) => {
-                drop(left);
-                Err(why)
-            }
-        }
-    }
-
-    fn write_in(
+    fn put(
         &mut self,
         alloc: Global,
         lease: &Lease,
         name: &RowName,
         row: &mut Row,
-        proposal: &Proposal,
+        writing: Writing<'_>,
     ) -> Result<u64, DeskRefusal> {
         let shared = self.shared;
-        write_once(alloc, shared, self.seat, lease, name, row, proposal)
-    }
-
-    fn settle(
-        &mut self,
-        alloc: Global,
-        lease: &Lease,
-        name: &RowName,
-        row: &Row,
-        id: RecordId,
-    ) -> Result<Written, DeskRefusal> {
-        let mut left = match row.copy(alloc) {
-            Ok(left) => left,
-            Err(NoMemory) => return Err(DeskRefusal::NoMemory),
-        };
-        match self.settle_in(alloc, lease, name, &mut left, id) {
-            Ok(commit) => Ok(Written { commit, row: left }),
-            Err(why) => {
-                drop(left);
-                Err(why)
-            }
-        }
-    }
-
-    fn settle_in(
-        &mut self,
-        alloc: Global,
-        lease: &Lease,
-        name: &RowName,
-        row: &mut Row,
-        id: RecordId,
-    ) -> Result<u64, DeskRefusal> {
-        let shared = self.shared;
-        settle_once(alloc, shared, self.seat, lease, name, row, id)
-    }
-
-    fn purge(
-        &mut self,
-        alloc: Global,
-        lease: &Lease,
-        name: &RowName,
-        row: &Row,
-        floor: u64,
-    ) -> Result<Written, DeskRefusal> {
-        let mut left = match row.copy(alloc) {
-            Ok(left) => left,
-            Err(NoMemory) => return Err(DeskRefusal::NoMemory),
-        };
-        match self.purge_in(alloc, lease, name, &mut left, floor) {
-            Ok(commit) => Ok(Written { commit, row: left }),
-            Err(why) => {
-                drop(left);
-                Err(why)
-            }
-        }
-    }
-
-    fn purge_in(
-        &mut self,
-        alloc: Global,
-        lease: &Lease,
-        name: &RowName,
-        row: &mut Row,
-        floor: u64,
-    ) -> Result<u64, DeskRefusal> {
-        let shared = self.shared;
-        purge_once(alloc, shared, self.seat, lease, name, row, floor)
+        put_once(alloc, shared, self.seat, lease, name, row, writing)
     }
 
     /// One raise of the mark, which is never refused, whoever has the turn and whoever has claimed the

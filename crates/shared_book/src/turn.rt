@@ -19,8 +19,8 @@ use crate::finishing::give_at;
 use crate::seats::Seat;
 use crate::shared::Shared;
 use crate::slots::take;
-use crate::turn_calls::{claim_at, purge_at, settle_at, unfinished_at, write_at};
-use book::{ClaimRefusal, Claimed, Lease, Proposal, WriteRefusal, Written};
+use crate::turn_calls::{claim_at, put_at, unfinished_at};
+use book::{ClaimRefusal, Claimed, Lease, Proposal, WriteRefusal, Writing, Written};
 use mw_types::{RecordId, RowName};
 use row_keeper::Keeper;
 use row_parts::Row;
@@ -147,7 +147,8 @@ impl<'s, 'a, K: Keeper> Turn<'s, 'a, K> {
             self.new.seat.now.place.me.0 ≡ self.old.seat.now.place.me.0) }
     {
         let shared = self.shared;
-        write_at(alloc, shared, self.seat, lease, name, row, proposal)
+        let writing = Writing::Propose { proposal };
+        put_at(alloc, shared, self.seat, lease, name, row, writing)
     }
 
     /// A sender learns, under a lease of the seat, that what it made was handled: the row no longer
@@ -189,7 +190,8 @@ impl<'s, 'a, K: Keeper> Turn<'s, 'a, K> {
             self.new.seat.now.place.me.0 ≡ self.old.seat.now.place.me.0) }
     {
         let shared = self.shared;
-        settle_at(alloc, shared, self.seat, lease, name, row, id)
+        let writing = Writing::Settle { id };
+        put_at(alloc, shared, self.seat, lease, name, row, writing)
     }
 
     /// A row forgets, under a lease of the seat, the ids of records that are finished: those below
@@ -231,7 +233,8 @@ impl<'s, 'a, K: Keeper> Turn<'s, 'a, K> {
             self.new.seat.now.place.me.0 ≡ self.old.seat.now.place.me.0) }
     {
         let shared = self.shared;
-        purge_at(alloc, shared, self.seat, lease, name, row, floor)
+        let writing = Writing::Purge { floor };
+        put_at(alloc, shared, self.seat, lease, name, row, writing)
     }
 
     /// How much work is left, as on a book.

@@ -1,25 +1,22 @@
 //! The calls of a turn, on a caller's seat.
-ghost use Rattle.std.specs.Prelude.{◌≡◌, ◌≢◌, ◌↔◌, IfErr, IfOk, IfSome, IsErrOf, [], length};
-ghost use Rattle.mw_types.specs.declared.entry.Entry.TheVariants.{Ack, Purge};
+ghost use Rattle.std.specs.Prelude.{◌≡◌, ◌≢◌, ◌↔◌, IfErr, IfOk, IfSome, IsErrOf, length};
 ghost use Rattle.run_history.specs.Finished.{unfinished};
 ghost use Rattle.run_history.specs.Legal.{MayClaim};
 ghost use Rattle.run_history.specs.Runs.{run_of};
 ghost use Rattle.book.specs.Answers.{IsFullWhere, IsStaleWhere};
 ghost use Rattle.book.specs.Claims.{IsDamaged};
-ghost use Rattle.book.specs.Conditions.{MayForget, MaySettle};
-ghost use Rattle.book.specs.Proposals.{IsProposable};
 ghost use Rattle.book.specs.declared.refusals.ClaimRefusal.TheVariants as claims;
 ghost use Rattle.book.specs.declared.refusals.WriteRefusal.TheVariants as refusals;
-ghost use Rattle.shared_book.specs.Turns.{HasClaimedIn, HasFaulted, HasStoredIn, HasTurn, HasWrittenIn, IsHere, IsProposedIn, IsRowHeld, MayWrite};
+ghost use Rattle.shared_book.specs.Turns.{HasClaimedIn, HasFaulted, HasPutIn, HasTurn, IsHere, IsRowHeld, MayPutIn, MayWrite};
 
 use crate::claiming::{claim_in, unfinished_in};
 use crate::in_turn::back;
 use crate::seats::Seat;
 use crate::shared::Shared;
 use crate::slots::{append, out};
-use book::{Book, ClaimRefusal, Claimed, Lease, Proposal, WriteRefusal, Written};
+use book::{Book, ClaimRefusal, Claimed, Lease, WriteRefusal, Writing, Written};
 use history_laws::case_is_runnable;
-use mw_types::{RecordId, RowName};
+use mw_types::RowName;
 use row_keeper::Keeper;
 use row_parts::Row;
 use std::alloc::Global;
@@ -64,28 +61,27 @@ pub(crate) fn claim_at<K: Keeper>(
 }
 
 // A write in a turn, on a copy of the row.
-pub(crate) fn write_at<K: Keeper>(
+pub(crate) fn put_at<K: Keeper>(
     alloc: Global,
     shared: &Shared<'_, K>,
     seat: &mut Seat<K>,
     lease: &Lease,
     name: &RowName,
     row: &Row,
-    proposal: &Proposal,
+    writing: Writing<'_>,
 ) -> Result<Written, WriteRefusal>
     requires here { IsHere shared.now.table.shared.table_id shared.now.case.now seat.old.place }
     requires turn { HasTurn seat.old.place.me }
     requires lease { MayWrite seat.old.place.me.0 lease.now name.now }
     requires row { IsRowHeld seat.old.place.me.0 lease.now name.now row.now }
-    requires proposal { IsProposable shared.now.case.now name.now row.now proposal.now }
-    requires seen { IsProposedIn seat.old.place.me.0 name.now proposal.now }
+    requires may { MayPutIn seat.old.place.me.0 name.now row.now writing }
 
     ensures here { IsHere shared.now.table.shared.table_id shared.now.case.now seat.new.place }
     ensures turn { HasTurn seat.new.place.me }
     ensures numbers { seat.new.place.me.0.numbers ≡ seat.old.place.me.0.numbers }
     ensures basis { seat.new.place.me.0.basis ≡ seat.old.place.me.0.basis }
-    ensures written { IfOk result (HasWrittenIn seat.old.place.me.0 seat.new.place.me.0
-        lease.now name.now proposal.now row.now) }
+    ensures put { IfOk result (HasPutIn seat.old.place.me.0 seat.new.place.me.0
+        lease.now name.now writing.entry row.now) }
     ensures stale { IsStaleWhere seat.old.place.me.0.front lease.now result }
     ensures full { IsFullWhere seat.old.place.me.0.basis.limit seat.old.place.me.0.front
         lease.now result }
@@ -97,112 +93,7 @@ pub(crate) fn write_at<K: Keeper>(
     let core = out(shared, &mut seat.place);
     let mut book = Book::of(shared.case, core);
     let front = book.history().len() as u64;
-    let result = book.write(alloc, lease, front, name, row, proposal);
-    let (_case, core) = book.into_core();
-    match result {
-        Ok(written) => {
-            append(shared, &mut seat.place, core);
-            Ok(written)
-        }
-        Err(why) => {
-            back(
-                shared,
-                &mut seat.place,
-                core,
-                why == WriteRefusal::KeeperFault,
-            );
-            Err(why)
-        }
-    }
-}
-
-// An id is settled in a turn, in a copy of the row.
-pub(crate) fn settle_at<K: Keeper>(
-    alloc: Global,
-    shared: &Shared<'_, K>,
-    seat: &mut Seat<K>,
-    lease: &Lease,
-    name: &RowName,
-    row: &Row,
-    id: RecordId,
-) -> Result<Written, WriteRefusal>
-    requires here { IsHere shared.now.table.shared.table_id shared.now.case.now seat.old.place }
-    requires turn { HasTurn seat.old.place.me }
-    requires lease { MayWrite seat.old.place.me.0 lease.now name.now }
-    requires row { IsRowHeld seat.old.place.me.0 lease.now name.now row.now }
-    requires id { let v = seat.old.place.me.0 in MaySettle v.basis.told v.front row.now id }
-
-    ensures here { IsHere shared.now.table.shared.table_id shared.now.case.now seat.new.place }
-    ensures turn { HasTurn seat.new.place.me }
-    ensures numbers { seat.new.place.me.0.numbers ≡ seat.old.place.me.0.numbers }
-    ensures basis { seat.new.place.me.0.basis ≡ seat.old.place.me.0.basis }
-    ensures written { let entry = Ack lease.now.seq name.now id in IfOk result
-        (HasStoredIn seat.old.place.me.0 seat.new.place.me.0 lease.now name.now entry row.now) }
-    ensures stale { IsStaleWhere seat.old.place.me.0.front lease.now result }
-    ensures full { IsFullWhere seat.old.place.me.0.basis.limit seat.old.place.me.0.front
-        lease.now result }
-    ensures fault { IsErrOf result WriteRefusal.KeeperFault →
-        HasFaulted seat.old.place.me.0 seat.new.place.me.0 }
-    ensures unchanged { IfErr result (λ why. (why ≢ refusals.KeeperFault) →
-        seat.new.place.me.0 ≡ seat.old.place.me.0) }
-{
-    let core = out(shared, &mut seat.place);
-    let mut book = Book::of(shared.case, core);
-    let front = book.history().len() as u64;
-    let result = book.settle(alloc, lease, front, name, row, id);
-    let (_case, core) = book.into_core();
-    match result {
-        Ok(written) => {
-            append(shared, &mut seat.place, core);
-            Ok(written)
-        }
-        Err(why) => {
-            back(
-                shared,
-                &mut seat.place,
-                core,
-                why == WriteRefusal::KeeperFault,
-            );
-            Err(why)
-        }
-    }
-}
-
-// A copy of a row is purged in a turn.
-pub(crate) fn purge_at<K: Keeper>(
-    alloc: Global,
-    shared: &Shared<'_, K>,
-    seat: &mut Seat<K>,
-    lease: &Lease,
-    name: &RowName,
-    row: &Row,
-    floor: u64,
-) -> Result<Written, WriteRefusal>
-    requires here { IsHere shared.now.table.shared.table_id shared.now.case.now seat.old.place }
-    requires turn { HasTurn seat.old.place.me }
-    requires lease { MayWrite seat.old.place.me.0 lease.now name.now }
-    requires row { IsRowHeld seat.old.place.me.0 lease.now name.now row.now }
-    requires floor { let v = seat.old.place.me.0 in
-        MayForget v.basis.case v.basis.told v.front name.now row.now floor }
-
-    ensures here { IsHere shared.now.table.shared.table_id shared.now.case.now seat.new.place }
-    ensures turn { HasTurn seat.new.place.me }
-    ensures numbers { seat.new.place.me.0.numbers ≡ seat.old.place.me.0.numbers }
-    ensures basis { seat.new.place.me.0.basis ≡ seat.old.place.me.0.basis }
-    ensures written { let entry = Purge lease.now.seq name.now floor in IfOk result
-        (HasStoredIn seat.old.place.me.0 seat.new.place.me.0 lease.now name.now entry row.now) }
-    ensures stale { IsStaleWhere seat.old.place.me.0.front lease.now result }
-    ensures full { IsFullWhere seat.old.place.me.0.basis.limit seat.old.place.me.0.front
-        lease.now result }
-    ensures fault { IsErrOf result WriteRefusal.KeeperFault →
-        HasFaulted seat.old.place.me.0 seat.new.place.me.0 }
-    ensures unchanged { IfErr result (λ why. (why ≢ refusals.KeeperFault) →
-        seat.new.place.me.0 ≡ seat.old.place.me.0) }
-{
-    let core = out(shared, &mut seat.place);
-    let mut book = Book::of(shared.case, core);
-    let front = book.history().len() as u64;
-    let result = book.purge(alloc, lease, front, name, row, floor);
+    let result = book.put_copy(alloc, lease, front, name, row, writing);
     let (_case, core) = book.into_core();
     match result {
         Ok(written) => {

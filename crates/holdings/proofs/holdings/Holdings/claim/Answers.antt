@@ -29,11 +29,11 @@ returns-clause-fits g c =
     AreAllHeld-claimed c.args.case.now (g.D.Desk.view c.args.desk.now) (g.D.Desk.view c.claim-claimed.new.self) c.args.worker interval
     c.bounds-bounds.result.now answer c.requires.case c.sound.ensures.sound c.sound-2.ensures.sound
     (sym (ap (λ (l : List Bounds). slice_get l interval) c.intervals.ensures.all) ∙ c.bounds-bounds.ensures.at)
-    c.in_ok-lease.ensures.claimed c.args.self.now c.put.new.self
-    (ap (λ (l : List (Option HeldView)). held_at l interval) c.put.ensures
+    c.in_ok-lease.ensures.claimed c.args.self.now c.hold.new.self
+    (ap (λ (l : List (Option HeldView)). held_at l interval) c.hold.ensures
     ∙ held-here places interval (Some left) c.in_ok-make_room.ensures.room
     ∙ ap (λ (rows : List (RowName × Contents)). Some (record { lease = answer.lease; rows = rows })) c.of-rows.ensures)
-    (λ j apart. ap (λ (l : List (Option HeldView)). held_at l j) c.put.ensures ∙ held-others places interval (Some left) j apart
+    (λ j apart. ap (λ (l : List (Option HeldView)). held_at l j) c.hold.ensures ∙ held-others places interval (Some left) j apart
     ∙ c.make_room.ensures.same j)
     c.requires.fits
 
@@ -47,9 +47,9 @@ returns-clause-claimed g c =
       answer = answer;
       claimed = c.in_ok-lease.ensures.claimed;
       number = sym c.seq-seq.ensures;
-      held = ap (λ (l : List (Option HeldView)). held_at l interval) c.put.ensures
+      held = ap (λ (l : List (Option HeldView)). held_at l interval) c.hold.ensures
           ∙ held-here places interval (Some left) c.in_ok-make_room.ensures.room
           ∙ ap (λ (rows : List (RowName × Contents)). Some (record { lease = answer.lease; rows = rows })) c.of-rows.ensures;
-      others = λ j apart. ap (λ (l : List (Option HeldView)). held_at l j) c.put.ensures
+      others = λ j apart. ap (λ (l : List (Option HeldView)). held_at l j) c.hold.ensures
           ∙ held-others places interval (Some left) j apart ∙ c.make_room.ensures.same j;
     }
