@@ -1,6 +1,6 @@
 -- What a proposal leaves fits its row's name, and its entry may come next.
-use Rattle.std.proofs.Common.{◌≡◌, ◌<◌, ◌≤◌, ◌+◌, ℕ, Bool, true, false, cond, ◌&&◌, List, [], ◌∷◌, ◌++◌, length, take, drop, refl, sym, ◌∙◌, ap, subst, arith}
-use Rattle.std.specs.Prelude.{Some, None, Result, Ok, Err, IfOk, OnOk, IfSome, ◌==◌, slice_get, option_map, filter, not}
+use Rattle.std.proofs.Common.{◌≡◌, ◌<◌, ◌+◌, ℕ, Bool, true, false, cond, ◌&&◌, List, [], ◌∷◌, ◌++◌, length, take, drop, refl, sym, ◌∙◌, ap, subst, arith}
+use Rattle.std.specs.Prelude.{Some, Result, Ok, Err, IfOk, OnOk, IfSome, ◌==◌, option_map}
 use Rattle.std.specs.Option.{option_map_or}
 use Rattle.std.specs.List.{list_all}
 use Rattle.std.proofs.lemmas.Bool.{and_from, le-leb}
@@ -12,16 +12,14 @@ use Rattle.mw_types.specs.declared.record.Record.{Record}
 use Rattle.mw_types.specs.declared.record.Production.{Production}
 use Rattle.mw_types.specs.declared.delivery.Delivery.{Delivery}
 use Rattle.mw_types.specs.declared.kind.Kind.{Kind}
-use Rattle.mw_types.specs.declared.kind.Kind.TheVariants as kinds
 use Rattle.mw_types.specs.declared.state.State.{State}
 use Rattle.mw_types.specs.declared.state.State.TheVariants as states
-use Rattle.mw_types.specs.declared.state.HeldTotal.{HeldTotal}
 use Rattle.mw_types.specs.declared.timer.Timer.{Timer}
 use Rattle.mw_types.specs.declared.entry.Entry.{Entry}
 use Rattle.mw_types.specs.declared.entry.Entry.TheVariants as entries
 use Rattle.mw_types.specs.Outcomes.{EffectsView}
 use Rattle.topology.specs.Shapes.{Shape, kind_of}
-use Rattle.computations.specs.Handlers.{effects_of, unchanged, outcome_with_timer, outcome_with_record, count_timer, window_due, spike_timer, total_due, is_spike, known_with, due_time, one_more, window_end, counted, held_with, has_kind, OfRecord, OfTimer}
+use Rattle.computations.specs.Handlers.{Cause, has_kind, OfRecord, OfTimer}
 use Rattle.row_parts.specs.Contents.{Contents, is_finished, cursor_in, found_delivery}
 use Rattle.injector.specs.Sources.{item_at}
 use Rattle.run_history.specs.Cases.{CaseShape, is_injector, source_of, record_of}
@@ -30,7 +28,7 @@ use Rattle.run_history.specs.Runs.{run_of, row_of, advanced, written_row}
 use Rattle.run_history.specs.Legal.{IsLegal}
 use Rattle.run_history.specs.Fences.{IsFenced, last_claim, known}
 use Rattle.history_laws.proofs.FeedLaws.{injector-no_kind}
-use Rattle.history_laws.proofs.PendingLaws.{was_some}
+use Rattle.history_laws.proofs.Caused.{IsOutcome, IsOutcome-does}
 use Rattle.history_laws.proofs.IdLaws.{next-length}
 use Rattle.history_laws.proofs.FinishedLaws.{waits-unless_finished}
 use Rattle.history_laws.proofs.SeenLaws.{found-more, IsLegalAndFenced-front}
@@ -47,73 +45,6 @@ use Rattle.book.specs.declared.proposal.Proposal.TheVariants as proposals
 use Rattle.run_history.proofs.Fitting.{fits-parts, sent_each-later}
 use Rattle.book.proofs.SentLaws.{sent-before}
 use Rattle.book.proofs.SeenRows.{told-both, told-then, row-front, IsNext-seen, IsWritten-next}
-
--- what a handler leaves: a state of the kind, and few records
-abbrev Suits : Kind → EffectsView → Type 0
-Suits kind o = (has_kind kind o.state ≡ true) × (length o.productions ≤ 8)
-
--- what a handler leaves of a record
-pub record-suits : (kind : Kind) (key : List ℕ) (state : State) (item : Record) → has_kind kind state ≡ true
-    → Suits kind (effects_of kind key state (OfRecord item))
-record-suits (kinds.Count size) key (states.Count late windows) item is =
-    elim item.late as (λ b. Suits (kinds.Count size) (cond b (unchanged (states.Count (one_more late) windows))
-    (let end = window_end size item.stamp in outcome_with_timer (states.Count late (counted windows end)) end item))) [
-      | true ↦ (refl, omega arith)
-      | false ↦ (refl, omega arith)
-    ]
-record-suits (kinds.Count size) key (states.Injector cursor) item is = absurd cc
-record-suits (kinds.Count size) key (states.Spike late held known) item is = absurd cc
-record-suits (kinds.Count size) key (states.Pass late) item is = absurd cc
-record-suits (kinds.Spike last times) key (states.Spike late held known) item is =
-    elim item.late as (λ b. Suits (kinds.Spike last times) (cond b (unchanged (states.Spike (one_more late) held known))
-    (outcome_with_timer (states.Spike late (held_with held item.stamp item.value) known) (due_time item.stamp) item))) [
-      | true ↦ (refl, omega arith)
-      | false ↦ (refl, omega arith)
-    ]
-record-suits (kinds.Spike last times) key (states.Injector cursor) item is = absurd cc
-record-suits (kinds.Spike last times) key (states.Count late windows) item is = absurd cc
-record-suits (kinds.Spike last times) key (states.Pass late) item is = absurd cc
-record-suits kinds.Pass key (states.Pass late) item is = (refl, omega arith)
-record-suits kinds.Pass key (states.Injector cursor) item is = absurd cc
-record-suits kinds.Pass key (states.Count late windows) item is = absurd cc
-record-suits kinds.Pass key (states.Spike late held known) item is = absurd cc
-
--- what a handler leaves of a timer
-pub timer-suits : (kind : Kind) (key : List ℕ) (state : State) (timer : Timer) → has_kind kind state ≡ true
-    → Suits kind (effects_of kind key state (OfTimer timer))
-timer-suits (kinds.Count size) key (states.Count late windows) timer is =
-    elim (window_due windows timer) as (λ o. Suits (kinds.Count size) (count_timer key late windows o)) [
-      | None ↦ (refl, omega arith)
-      | Some due ↦ (refl, omega arith)
-    ]
-timer-suits (kinds.Count size) key (states.Injector cursor) timer is = absurd cc
-timer-suits (kinds.Count size) key (states.Spike late held known) timer is = absurd cc
-timer-suits (kinds.Count size) key (states.Pass late) timer is = absurd cc
-timer-suits (kinds.Spike last times) key (states.Spike late held known) timer is =
-    elim (total_due held timer) as (λ o. Suits (kinds.Spike last times) (spike_timer last times key late held known o)) [
-      | None ↦ (refl, omega arith)
-      | Some due ↦ by_spike due (is_spike last times known due.value) refl
-    ]
-  where
-    by_spike : (due : HeldTotal) (b : Bool) → is_spike last times known due.value ≡ b
-        → Suits (kinds.Spike last times) (spike_timer last times key late held known (Some due))
-    by_spike due true is = subst (λ b. Suits (kinds.Spike last times)
-        (cond b (outcome_with_record (left due) key (due_time due.stamp) due.value) (unchanged (left due)))) (sym is) (refl, omega arith)
-      where
-        left : HeldTotal → State
-        left due = states.Spike late (filter (λ (h : HeldTotal). not (h.stamp == due.stamp)) held) (known_with last known due.value)
-    by_spike due false is = subst (λ b. Suits (kinds.Spike last times)
-        (cond b (outcome_with_record (left due) key (due_time due.stamp) due.value) (unchanged (left due)))) (sym is) (refl, omega arith)
-      where
-        left : HeldTotal → State
-        left due = states.Spike late (filter (λ (h : HeldTotal). not (h.stamp == due.stamp)) held) (known_with last known due.value)
-timer-suits (kinds.Spike last times) key (states.Injector cursor) timer is = absurd cc
-timer-suits (kinds.Spike last times) key (states.Count late windows) timer is = absurd cc
-timer-suits (kinds.Spike last times) key (states.Pass late) timer is = absurd cc
-timer-suits kinds.Pass key (states.Pass late) timer is = (refl, omega arith)
-timer-suits kinds.Pass key (states.Injector cursor) timer is = absurd cc
-timer-suits kinds.Pass key (states.Count late windows) timer is = absurd cc
-timer-suits kinds.Pass key (states.Spike late held known) timer is = absurd cc
 
 -- ---- rows that fit, by the part
 
@@ -174,42 +105,18 @@ fits-injected case n name row left productions late fit injector there state tim
     (ap (list_all (is_sent_before case.topology (n + 1))) pending
     ∙ pending-fits case.topology n name.part productions late row.pending parts.1)
 
--- a computation's row still fits, once its handler has left a state of its kind
-fits-computed : (case : CaseShape) (n : ℕ) (name : RowName) (row left : Contents) (productions : List Production) (late : Bool)
-    (kind : Kind) → fits case n name row ≡ true
-    → kind_of case.topology name.part ≡ Some kind → has_kind kind left.state ≡ true
-    → left.pending ≡ row.pending ++ deliveries_made case.topology name.part productions late n
+-- a computation's row still fits, once its handler has left its state
+fits-caused : (case : CaseShape) (n : ℕ) (name : RowName) (row left : Contents) (cause : Cause) (o : EffectsView) (late : Bool)
+    → fits case n name row ≡ true → IsOutcome case name row cause o → left.state ≡ o.state
+    → left.pending ≡ row.pending ++ deliveries_made case.topology name.part o.productions late n
     → fits case (n + 1) name left ≡ true
-fits-computed case n name row left productions late kind fit is state pending =
+fits-caused case n name row left cause o late fit is state pending =
     let parts = fits-parts case n name row fit in
+    let kept = is.leaves.left.kept (sym (suits-computation case name.part row is.kind is.of_part) ∙ parts.0) in
     and_from (suits_part case name.part left) (list_all (is_sent_before case.topology (n + 1)) left.pending)
-    (suits-computation case name.part left kind is ∙ state)
+    (suits-computation case name.part left is.kind is.of_part ∙ ap (has_kind is.kind) state ∙ kept)
     (ap (list_all (is_sent_before case.topology (n + 1))) pending
-    ∙ pending-fits case.topology n name.part productions late row.pending parts.1)
-
--- what a proposal's handler leaves suits its kind
-pub handling-suits : (case : CaseShape) (n : ℕ) (name : RowName) (row : Contents) (delivery : Delivery) (effects : EffectsView)
-    → fits case n name row ≡ true
-    → IsHandling case name row delivery effects → (kind : Kind) ×
-    ((kind_of case.topology name.part ≡ Some kind) × ((has_kind kind effects.state ≡ true) × (length effects.productions ≤ 8)))
-handling-suits case n name row delivery effects fit handling =
-    let of = was_some (λ (kind : Kind). effects_of kind name.key row.state (OfRecord delivery.item))
-    (kind_of case.topology name.part) effects handling.does in
-    let suits = record-suits of.0 name.key row.state delivery.item
-    (sym (suits-computation case name.part row of.0 of.1) ∙ (fits-parts case n name row fit).0) in
-    (of.0, (of.1, subst (λ (o : EffectsView). (has_kind of.0 o.state ≡ true) × (length o.productions ≤ 8)) of.2 suits))
-
--- and so of a timer
-pub firing-suits : (case : CaseShape) (n : ℕ) (name : RowName) (row : Contents) (timer : Timer) (effects : EffectsView)
-    → fits case n name row ≡ true
-    → IsFiring case name row timer effects → (kind : Kind) ×
-    ((kind_of case.topology name.part ≡ Some kind) × ((has_kind kind effects.state ≡ true) × (length effects.productions ≤ 8)))
-firing-suits case n name row timer effects fit firing =
-    let of = was_some (λ (kind : Kind). effects_of kind name.key row.state (OfTimer timer))
-    (kind_of case.topology name.part) effects firing.does in
-    let suits = timer-suits of.0 name.key row.state timer
-    (sym (suits-computation case name.part row of.0 of.1) ∙ (fits-parts case n name row fit).0) in
-    (of.0, (of.1, subst (λ (o : EffectsView). (has_kind of.0 o.state ≡ true) × (length o.productions ≤ 8)) of.2 suits))
+    ∙ pending-fits case.topology n name.part o.productions late row.pending parts.1)
 
 -- ---- the entry of a proposal may come next
 
@@ -260,12 +167,14 @@ next-handled book lease front name row left delivery effects lawful uses seen la
     let number = length book.history in
     let first = take front book.history in
     let split = take-append-drop front book.history in
-    let sent = deliveries_made shape name.part effects.productions delivery.item.late number in
-    let suits = handling-suits book.case number name row delivery effects seen.fit handling in
-    IsNext-seen book lease front name entry row left sent lawful uses seen last room refl refl suits.1.1.1 handling.id leaves
+    let late = delivery.item.late in
+    let sent = deliveries_made shape name.part effects.productions late number in
+    let cause = OfRecord delivery.item in
+    let outcome = IsOutcome-does book.case name row cause effects handling.does in
+    IsNext-seen book lease front name entry row left sent lawful uses seen last room refl refl outcome.leaves.productions.few
+    handling.id leaves
     (subst (λ (c : Contents). fits book.case (number + 1) name c ≡ true) (sym leaves)
-    (fits-computed book.case number name row (written_row number entry sent row) effects.productions delivery.item.late suits.0 seen.fit
-    suits.1.0 suits.1.1.0 refl))
+    (fits-caused book.case number name row (written_row number entry sent row) cause effects late seen.fit outcome refl refl))
     (told-then book.rows
     (λ r. HoldsRowsOf book.case book.history r × ((row ≡ row_of shape (run_of shape (known lease.interval lease.seq first)) name) ×
     (found_delivery delivery.id (run_of shape first).made ≡ Some delivery))) _
@@ -273,14 +182,13 @@ next-handled book lease front name row left delivery effects lawful uses seen la
     (λ r p.
     let legal = IsLegalAndFenced-front book.case first (drop front book.history)
     (record { legal = subst (IsLegal book.case) (sym split) p.0.legal; fenced = subst (IsFenced shape) (sym split) lawful.fenced }) in
-    let row-is : row ≡ row_of shape (run_of shape first) name = p.1.0 ∙ row-front book lease front name uses last in record {
+    let handles = subst (λ (c : Contents). IsHandling book.case name c delivery effects)
+    (p.1.0 ∙ row-front book lease front name uses last) handling in record {
       delivery = delivery;
       waits = waits-unless_finished book.case first delivery legal.legal p.1.1
-          (sym (λ i. is_finished delivery.id (row_of shape (run_of shape first) (sym handling.to_row i)))
-          ∙ sym (ap (is_finished delivery.id) row-is) ∙ handling.new);
+          (ap (λ (n : RowName). is_finished delivery.id (row_of shape (run_of shape first) n)) handling.to_row ∙ handles.new);
       to_row = handling.to_row;
-      does = sym (ap (λ (c : Contents). option_map (λ (kind : Kind). effects_of kind name.key c.state (OfRecord delivery.item))
-          (kind_of shape name.part)) row-is) ∙ handling.does;
+      does = handles.does;
     }))
     (told-then book.rows (λ _. found_delivery delivery.id (run_of shape first).made ≡ Some delivery) _ made
     (λ r found.
@@ -306,22 +214,22 @@ next-fired book lease front name row left timer mark effects lawful uses seen la
     let number = length book.history in
     let first = take front book.history in
     let sent = deliveries_made shape name.part effects.productions timer.late number in
-    let suits = firing-suits book.case number name row timer effects seen.fit firing in
-    IsNext-seen book lease front name entry row left sent lawful uses seen last room refl refl suits.1.1.1 tt leaves
+    let cause = OfTimer timer in
+    let outcome = IsOutcome-does book.case name row cause effects firing.does in
+    IsNext-seen book lease front name entry row left sent lawful uses seen last room refl refl outcome.leaves.productions.few tt leaves
     (subst (λ (c : Contents). fits book.case (number + 1) name c ≡ true) (sym leaves)
-    (fits-computed book.case number name row (written_row number entry sent row) effects.productions timer.late suits.0 seen.fit suits.1.0
-    suits.1.1.0 refl))
+    (fits-caused book.case number name row (written_row number entry sent row) cause effects timer.late seen.fit outcome refl refl))
     (told-then book.rows
     (λ r. (row ≡ row_of shape (run_of shape (known lease.interval lease.seq first)) name) × IsDueUnder book.case
     (run_of shape first) name.part mark timer) _
     (told-both book.rows _ _ seen.known under)
     (λ r p.
-    let row-is : row ≡ row_of shape (run_of shape first) name = p.0 ∙ row-front book lease front name uses last in record {
-      least_timer = sym (ap (λ (c : Contents). slice_get c.timers 0) row-is) ∙ firing.least;
+    let fires = subst (λ (c : Contents). IsFiring book.case name c timer effects)
+    (p.0 ∙ row-front book lease front name uses last) firing in record {
+      least_timer = fires.least;
       due = p.1.due;
       under_watermark = p.1.under_watermark;
-      does = sym (ap (λ (c : Contents). option_map (λ (kind : Kind). effects_of kind name.key c.state (OfTimer timer))
-          (kind_of shape name.part)) row-is) ∙ firing.does;
+      does = fires.does;
     }))
     (told-then book.rows (HoldsRowsOf book.case book.history) _ lawful.held
     (λ r _. ap (λ n. deliveries_made shape name.part effects.productions timer.late n) (sym (next-length shape book.history))))

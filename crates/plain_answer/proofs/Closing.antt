@@ -29,7 +29,7 @@ use Rattle.computations.specs.Handlers.{window_end, window_due, count_timer, unc
 use Rattle.row_parts.specs.Contents.{found_delivery}
 use Rattle.run_history.specs.Cases.{CaseShape}
 use Rattle.run_history.specs.Inputs.{IsRunnable}
-use Rattle.run_history.specs.Made.{produced, late_cause}
+use Rattle.run_history.specs.Made.{produced}
 use Rattle.run_history.specs.Runs.{Run, run_of, row_of, empty_run}
 use Rattle.history_laws.proofs.RowSteps.{same_row}
 use Rattle.run_history.specs.Legal.{MayFire, MayFollow, IsLegal}
@@ -39,7 +39,7 @@ use Rattle.plain_answer.specs.Stories.{added_by, out_of}
 use Rattle.plain_answer.proofs.Counting.{tie}
 use Rattle.plain_answer.proofs.Members.{out_at, out_at-append, added-here, added-other, computation-apart}
 use Rattle.plain_answer.proofs.Opening.{Does, does, holds-all}
-use Rattle.plain_answer.proofs.Passing.{kind-at, record-left, timer-left}
+use Rattle.plain_answer.proofs.Causes.{handled-nothing, fired-other}
 use Rattle.plain_answer.proofs.Producing.{fire-produces}
 use Rattle.plain_answer.proofs.Setting.{IsSet, legal-set}
 use Rattle.plain_answer.proofs.Stories.{deeds-push, out-push, legal-push, along_legal}
@@ -176,9 +176,7 @@ record-nothing size key (states.Count late windows) item =
       | true ↦ refl
       | false ↦ refl
     ]
-record-nothing size key (states.Injector cursor) item = refl
-record-nothing size key (states.Spike late held known) item = refl
-record-nothing size key (states.Pass late) item = refl
+record-nothing size key state item = refl
 
 -- and of a timer only under its row's key
 timer-key : (size : ℕ) (key : List ℕ) (state : State) (timer : Timer)
@@ -188,18 +186,7 @@ timer-key size key (states.Count late windows) timer = by_due (window_due window
     by_due : (due : Option Window) → AllByRecursion (λ (p : Production). p.key ≡ key) (count_timer key late windows due).productions
     by_due None = tt
     by_due (Some due) = (refl, tt)
-timer-key size key (states.Injector cursor) timer = tt
-timer-key size key (states.Spike late held known) timer = tt
-timer-key size key (states.Pass late) timer = tt
-
--- records of another key are at no place of this one
-pub other-key : (place : List ℕ × ℕ) (own : List ℕ) (late : Bool) (ps : List Production) → pointwise nat_eq place.0 own ≡ false
-    → AllByRecursion (λ (p : Production). p.key ≡ own) ps → filter (at_place place) (map (produced late) ps) ≡ []
-other-key place own late [] other each = refl
-other-key place own late (p ∷ ps) other each =
-    ap (λ b. cond (b && (p.stamp == place.1)) (produced late p ∷ filter (at_place place) (map (produced late) ps))
-    (filter (at_place place) (map (produced late) ps))) (ap (pointwise nat_eq place.0) each.0 ∙ other)
-    ∙ other-key place own late ps other each.1
+timer-key size key state timer = tt
 
 module _ (case : CaseShape) (name : RowName) (size end : ℕ) (runs : IsRunnable case)
     (kind : kind_of case.topology name.part ≡ Some (kinds.Count size)) where
@@ -307,23 +294,9 @@ module _ (case : CaseShape) (name : RowName) (size end : ℕ) (runs : IsRunnable
       (ap here (added-other name.part (run_of shape h) (Inject seq other line item) (record { part = other; key = [] }) refl
       (computation-apart shape name.part other (kinds.Count size) kind may.injector))) nil-no_fire
   adds-here h (Handle seq row id effects) legal may short =
-      quiet h entry legal may nothing (λ time. taken-no_fire (found_delivery id (run_of shape h).unhandled) (is_at (row_cmp name) row) time)
-    where
-      entry : Entry
-      entry = Handle seq row id effects
-
-      nothing : here (out_at name.part (added_by (run_of shape h) (Handle seq row id effects))) ≡ []
-      nothing = elim (row.part == name.part) as
-          (λ b. (row.part == name.part) ≡ b → here (out_at name.part (added_by (run_of shape h) (Handle seq row id effects))) ≡ []) [
-            | true ↦ λ e.
-                let left = record-left case (run_of shape h) row id effects (kinds.Count size) may
-                (kind-at shape name.part row.part (kinds.Count size) kind e) in
-                ap here (added-here name.part (run_of shape h) (Handle seq row id effects) row refl e
-                ∙ ap (map (produced (late_cause (run_of shape h).made (Handle seq row id effects))))
-                (sym (ap (λ (o : EffectsView). o.productions) left)
-                ∙ record-nothing size row.key (row_of shape (run_of shape h) row).state may.delivery.item))
-            | false ↦ λ e. ap here (added-other name.part (run_of shape h) (Handle seq row id effects) row refl e)
-          ] refl
+      quiet h (Handle seq row id effects) legal may
+      (ap here (handled-nothing case (run_of shape h) name.part (kinds.Count size) seq row id effects kind (record-nothing size) may))
+      (λ time. taken-no_fire (found_delivery id (run_of shape h).unhandled) (is_at (row_cmp name) row) time)
   adds-here h (Fire seq row timer mark effects) legal may short =
       elim (is_at (row_cmp name) row) as
       (λ b. is_at (row_cmp name) row ≡ b
@@ -337,23 +310,11 @@ module _ (case : CaseShape) (name : RowName) (size end : ℕ) (runs : IsRunnable
             (out_at name.part (added_by (run_of shape h) (Fire seq r timer mark effects)))
             ≡ closed size name.key end (deeds_of shape name h ++ deeds_in name (run_of shape h) (Fire seq r timer mark effects)))
             (same_row name row e) (λ m s. fires-here h seq timer mark effects legal m s) may short
-        | false ↦ λ e. quiet h (Fire seq row timer mark effects) legal may (nothing e)
+        | false ↦ λ e. quiet h (Fire seq row timer mark effects) legal may
+            (fired-other case (run_of shape h) name.part (kinds.Count size) seq row timer mark effects (at_place (name.key, end)) kind
+            (timer-key size) (λ same r is. ap (λ b. b && (r.stamp == end)) (ap (pointwise nat_eq name.key) is ∙ key-differs row same e)) may)
             (λ time is. nil-no_fire time (sym (ap (λ b. cond b (cond (timer.tag == 0) (fired timer.time ∷ []) []) []) e) ∙ is))
       ] refl
-    where
-      nothing : is_at (row_cmp name) row ≡ false → here (out_at name.part
-          (added_by (run_of shape h) (Fire seq row timer mark effects))) ≡ []
-      nothing apart = elim (row.part == name.part) as
-          (λ b. (row.part == name.part) ≡ b → here (out_at name.part (added_by (run_of shape h) (Fire seq row timer mark effects))) ≡ []) [
-            | true ↦ λ e.
-                let left = timer-left case (run_of shape h) row timer mark effects (kinds.Count size) may
-                (kind-at shape name.part row.part (kinds.Count size) kind e) in
-                ap here (added-here name.part (run_of shape h) (Fire seq row timer mark effects) row refl e)
-                ∙ other-key (name.key, end) row.key timer.late effects.productions (key-differs row e apart)
-                (subst (λ (o : EffectsView). AllByRecursion (λ (p : Production). p.key ≡ row.key) o.productions) left
-                (timer-key size row.key (row_of shape (run_of shape h) row).state timer))
-            | false ↦ λ e. ap here (added-other name.part (run_of shape h) (Fire seq row timer mark effects) row refl e)
-          ] refl
   adds-here h (Ack seq row id) legal may short = quiet h (Ack seq row id) legal may (none (Ack seq row id) refl) nil-no_fire
     where
       none : (entry : Entry) → added_by (run_of shape h) entry ≡ [] → here (out_at name.part (added_by (run_of shape h) entry)) ≡ []

@@ -1,6 +1,6 @@
 -- The windows of a row of a count are what its deeds make of them.
 use Rattle.std.proofs.Common.{◌≡◌, ℕ, ◌==◌, not, true, false, cond, List, [], ◌∷◌, ◌++◌, filter, find, fold, Option, Some, None, IfSome, inl, inr, refl, sym, ◌∙◌, ap, subst}
-use Rattle.std.specs.Option.{option_map, option_map_or}
+use Rattle.std.specs.Option.{option_map_or}
 use Rattle.std.specs.Ordering.{is_eq}
 use Rattle.std.specs.BTreeMap.{is_at}
 use Rattle.std.specs.Cmp.{tied_itself}
@@ -18,7 +18,7 @@ use Rattle.mw_types.specs.Orders.{row_cmp}
 use Rattle.mw_types.specs.Outcomes.{EffectsView}
 use Rattle.mw_types.proofs.OrderLaws.{row_cmp-total}
 use Rattle.topology.specs.Shapes.{Shape, kind_of}
-use Rattle.computations.specs.Handlers.{fresh_state, one_more, unchanged, outcome_with_timer, counted, count_record, count_timer, window_due, window_end, effects_of, OfRecord, OfTimer}
+use Rattle.computations.specs.Handlers.{fresh_state, one_more, unchanged, outcome_with_timer, counted, count_record, count_timer, window_due, window_end, OfRecord, OfTimer}
 use Rattle.computations.specs.HandlerLaws.{find-passes}
 use Rattle.row_parts.specs.Contents.{found_delivery}
 use Rattle.run_history.specs.Cases.{CaseShape}
@@ -30,6 +30,7 @@ use Rattle.history_laws.proofs.Along.{along_history}
 use Rattle.history_laws.proofs.FeedLaws.{injector-no_kind}
 use Rattle.history_laws.proofs.RowSteps.{same_row, on_row_or_not, row_of-here, row_of-elsewhere}
 use Rattle.plain_answer.specs.Deeds.{Deed, took, fired, after_deed, windows_after, taken, deeds_in, Told, told, told_of, deeds_of}
+use Rattle.plain_answer.proofs.Causes.{kind-left}
 
 -- ---- what the handlers leave
 
@@ -129,11 +130,8 @@ module _ (case : CaseShape) (name : RowName) (size : ℕ) (kind : kind_of case.t
       let entry : Entry = Handle seq name id effects in
       let ws : List Window = windows_after size s.deeds in
       let item : Record = may.delivery.item in
-      let does : effects_of (kinds.Count size) name.key (row_of shape s.run name).state (OfRecord item) ≡ effects =
-      some_same _ effects (sym (ap (option_map (λ k. effects_of k name.key (row_of shape s.run name).state (OfRecord item))) kind)
-      ∙ may.does) in
-      let left : count_record size has.late ws item ≡ effects =
-      sym (ap (λ st. effects_of (kinds.Count size) name.key st (OfRecord item)) has.is) ∙ does in
+      let left : count_record size has.late ws item ≡ effects = kind-left case name (row_of shape s.run name) (OfRecord item) effects
+      (kinds.Count size) (states.Count has.late ws) kind has.is may.does in
       let state = record-state size has.late ws item in
       let here : (row_of shape (followed shape s.run entry) name).state ≡ effects.state =
       ap (λ c. c.state) (row_of-here shape s.run entry name refl) in
@@ -147,11 +145,8 @@ module _ (case : CaseShape) (name : RowName) (size : ℕ) (kind : kind_of case.t
   fires s seq timer mark effects has may =
       let entry : Entry = Fire seq name timer mark effects in
       let ws : List Window = windows_after size s.deeds in
-      let does : effects_of (kinds.Count size) name.key (row_of shape s.run name).state (OfTimer timer) ≡ effects =
-      some_same _ effects (sym (ap (option_map (λ k. effects_of k name.key (row_of shape s.run name).state (OfTimer timer))) kind)
-      ∙ may.does) in
-      let left : count_timer name.key has.late ws (window_due ws timer) ≡ effects =
-      sym (ap (λ st. effects_of (kinds.Count size) name.key st (OfTimer timer)) has.is) ∙ does in
+      let left : count_timer name.key has.late ws (window_due ws timer) ≡ effects = kind-left case name (row_of shape s.run name)
+      (OfTimer timer) effects (kinds.Count size) (states.Count has.late ws) kind has.is may.does in
       let here : (row_of shape (followed shape s.run entry) name).state ≡ effects.state =
       ap (λ c. c.state) (row_of-here shape s.run entry name refl) in
       let ds : List Deed = cond (timer.tag == 0) (fired timer.time ∷ []) [] in

@@ -6,9 +6,9 @@ use Rattle.mw_types.specs.declared.entry.Entry.{Entry}
 use Rattle.mw_types.specs.declared.entry.Entry.TheVariants.{Inject, Handle, Fire, Ack}
 use Rattle.mw_types.specs.Outcomes.{EffectsView}
 use Rattle.topology.specs.Shapes.{Shape, kind_of}
-use Rattle.computations.specs.Handlers.{window_due, count_timer, effects_of, OfTimer}
+use Rattle.computations.specs.Handlers.{window_due, count_timer, OfTimer}
 use Rattle.run_history.specs.Cases.{CaseShape}
-use Rattle.run_history.specs.Made.{produced, late_cause}
+use Rattle.run_history.specs.Made.{produced}
 use Rattle.run_history.specs.Runs.{Run, run_of, row_of}
 use Rattle.run_history.specs.Legal.{MayFollow, IsLegal}
 use Rattle.list_lemmas.proofs.Places.{each-at}
@@ -18,7 +18,7 @@ use Rattle.plain_answer.specs.Stories.{added_by, out_of, fires_on}
 use Rattle.plain_answer.proofs.Closing.{record-nothing}
 use Rattle.plain_answer.proofs.Counting.{count-windows}
 use Rattle.plain_answer.proofs.Members.{out_at, out_at-append, added-here, added-other, computation-apart}
-use Rattle.plain_answer.proofs.Passing.{kind-at, record-left, timer-left}
+use Rattle.plain_answer.proofs.Causes.{kind-at, kind-left, handled-nothing}
 use Rattle.plain_answer.proofs.Setting.{IsSet, legal-set, found-window}
 use Rattle.plain_answer.proofs.Stories.{out-push, along_legal}
 
@@ -38,17 +38,7 @@ module _ (case : CaseShape) (part size : ℕ) (kind : kind_of case.topology part
       sym (ap length (added-other part (run_of shape h) (Inject seq other line item) (record { part = other; key = [] }) refl
       (computation-apart shape part other (kinds.Count size) kind may.injector)))
   one h (Handle seq row id effects) legal may =
-      elim (row.part == part) as
-      (λ b. (row.part == part) ≡ b → ◌≡◌ {A = ℕ} 0 (length (out_at part (added_by (run_of shape h) (Handle seq row id effects))))) [
-        | true ↦ λ e.
-            let left = record-left case (run_of shape h) row id effects (kinds.Count size) may
-            (kind-at shape part row.part (kinds.Count size) kind e) in
-            sym (ap length (added-here part (run_of shape h) (Handle seq row id effects) row refl e
-            ∙ ap (map (produced (late_cause (run_of shape h).made (Handle seq row id effects))))
-            (sym (ap (λ (o : EffectsView). o.productions) left)
-            ∙ record-nothing size row.key (row_of shape (run_of shape h) row).state may.delivery.item)))
-        | false ↦ λ e. sym (ap length (added-other part (run_of shape h) (Handle seq row id effects) row refl e))
-      ] refl
+      sym (ap length (handled-nothing case (run_of shape h) part (kinds.Count size) seq row id effects kind (record-nothing size) may))
   one h (Fire seq row timer mark effects) legal may =
       elim (row.part == part) as
       (λ b. (row.part == part) ≡ b → ◌≡◌ {A = ℕ} (cond b 1 0)
@@ -59,9 +49,8 @@ module _ (case : CaseShape) (part size : ℕ) (kind : kind_of case.topology part
             let ws : List Window = windows_after size (deeds_of shape row h) in
             let set = each-at (IsSet ws) (row_of shape run row).timers 0 timer (legal-set case row size of h legal) may.least_timer in
             let counts = count-windows case row size of h legal in
-            let left : count_timer row.key counts.0 ws (window_due ws timer) ≡ effects =
-            sym (ap (λ st. effects_of (kinds.Count size) row.key st (OfTimer timer)) counts.1)
-            ∙ timer-left case run row timer mark effects (kinds.Count size) may of in
+            let left : count_timer row.key counts.0 ws (window_due ws timer) ≡ effects = kind-left case row (row_of shape run row)
+            (OfTimer timer) effects (kinds.Count size) (states.Count counts.0 ws) of counts.1 may.does in
             let found = found-window timer.time ws set.2 in
             let due : window_due ws timer ≡ Some found.0 =
             ap (λ n. cond (n == 0) (find (λ (w : Window). w.end == timer.time) ws) None) set.0 ∙ found.1 in

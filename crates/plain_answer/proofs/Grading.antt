@@ -1,121 +1,42 @@
 -- A stamp grows by at most a step with each part.
-use Rattle.std.proofs.Common.{◌≡◌, ℕ, ◌+◌, ◌^◌, ◌<◌, ◌≤◌, ◌==◌, Bool, true, false, cond, filter, not, List, [], ◌∷◌, Option, Some, None, IfSome, ℤ, sym, subst, arith}
+use Rattle.std.proofs.Common.{◌≡◌, ℕ, ◌+◌, ◌^◌, ◌<◌, ◌≤◌, ◌==◌, Bool, false, not, List, [], ◌∷◌, Some, refl, sym, subst, arith}
 use Rattle.std.specs.Prelude.{Contains}
 use Rattle.std.specs.List.{AllByRecursion}
 use Rattle.std.proofs.lemmas.Bool.{ltb-true}
 use Rattle.std.proofs.lemmas.List.Elements.{All-contains, All-from_recursion}
+use Rattle.mw_types.specs.declared.TheConstants.{MAX_STAMP}
+use Rattle.mw_types.specs.declared.identity.RecordId.{RecordId}
 use Rattle.mw_types.specs.declared.identity.RowName.{RowName}
-use Rattle.mw_types.specs.declared.record.Record.{Record}
 use Rattle.mw_types.specs.declared.record.Production.{Production}
 use Rattle.mw_types.specs.declared.timer.Timer.{Timer}
-use Rattle.mw_types.specs.declared.state.State.{State}
-use Rattle.mw_types.specs.declared.state.State.TheVariants as states
-use Rattle.mw_types.specs.declared.state.Window.{Window}
-use Rattle.mw_types.specs.declared.state.HeldTotal.{HeldTotal}
-use Rattle.mw_types.specs.declared.kind.Kind.{Kind}
-use Rattle.mw_types.specs.declared.kind.Kind.TheVariants as kinds
 use Rattle.mw_types.specs.declared.delivery.Delivery.{Delivery}
 use Rattle.mw_types.specs.declared.entry.Entry.{Entry}
 use Rattle.mw_types.specs.declared.entry.Entry.TheVariants.{Inject, Handle, Fire}
 use Rattle.mw_types.specs.Kinds.{IsKind}
 use Rattle.mw_types.specs.Outcomes.{EffectsView}
 use Rattle.topology.specs.declared.subscription.Subscription.{Subscription}
-use Rattle.topology.specs.Shapes.{Shape, parts_of, injectors_of, consumers_of, feeds_of, kind_of}
+use Rattle.topology.specs.Shapes.{Shape, parts_of, injectors_of, consumers_of, feeds_of}
 use Rattle.topology.specs.Rules.{IsTopology}
-use Rattle.row_parts.specs.Contents.{Contents, same_id, is_timer}
-use Rattle.computations.specs.Handlers.{unchanged, outcome_with_timer, outcome_with_record, one_more, window_end, due_time, counted, held_with, count_timer, window_due, spike_timer, total_due, is_spike, known_with, effects_of, OfRecord, OfTimer}
+use Rattle.row_parts.specs.Contents.{Contents, found_delivery, same_id}
+use Rattle.computations.specs.Handlers.{Cause, stamp_of, is_record, OfRecord, OfTimer}
+use Rattle.computations.specs.Leaving.{IsNear, IsTimerAfter, IsProductionAfter}
 use Rattle.run_history.specs.Cases.{CaseShape, source_of}
-use Rattle.run_history.specs.Made.{row_written, deliveries_of, deliveries_made}
+use Rattle.run_history.specs.Made.{row_written, deliveries_of, deliveries_made, late_cause}
 use Rattle.run_history.specs.Runs.{Run, run_of, row_of, followed, changed, still_unhandled}
 use Rattle.run_history.specs.Legal.{MayFollow, IsLegal}
 use Rattle.run_history.specs.Inputs.{IsRunnable}
 use Rattle.run_history.specs.Finished.{handles}
-use Rattle.list_lemmas.proofs.Lists.{some_same, each-append, each-weaker, each-filter, find-each}
-use Rattle.list_lemmas.proofs.Places.{each-at}
+use Rattle.list_lemmas.proofs.Lists.{each-append, each-weaker, each-filter, find-each}
 use Rattle.history_laws.proofs.Along.{along_history}
+use Rattle.history_laws.proofs.Caused.{IsCaused, of_standing, caused-handle, caused-fire, caused-there, caused-sent}
 use Rattle.history_laws.proofs.FeedLaws.{consumers-fed, feeds-before, kind-ranged}
 use Rattle.history_laws.proofs.IdLaws.{still_unhandled-filter}
 use Rattle.history_laws.proofs.Made.{deliveries_made-each}
-use Rattle.history_laws.proofs.PendingLaws.{was_some, kind-there}
 use Rattle.history_laws.proofs.RowSteps.{row_of-step}
-use Rattle.history_laws.proofs.StampLaws.{with_timers-each, injected-in_time, source_of-source}
-use Rattle.history_laws.proofs.HandlerBounds.{window_due-time, total_due-time}
+use Rattle.history_laws.proofs.StampLaws.{injected-in_time, source_of-source}
 use Rattle.plain_answer.specs.Grades.{grade}
 
--- ---- what handlers leave
-
--- what a cause of this timestamp sets and produces is at most a step later
-record IsNear (stamp : ℕ) (o : EffectsView) : Type 0 where
-  timers : AllByRecursion (λ (t : Timer). t.time ≤ stamp + 2 ^ 40) o.timers
-  productions : AllByRecursion (λ (p : Production). p.stamp ≤ stamp + 2 ^ 40) o.productions
-
--- of a record
-record-near : (kind : Kind) (key : List ℕ) (state : State) (item : Record) → IsKind kind
-    → IsNear item.stamp (effects_of kind key state (OfRecord item))
-record-near (kinds.Count size) key (states.Count late windows) item ranged =
-    let end : ℕ = window_end size item.stamp in
-    let near : end ≤ item.stamp + 2 ^ 40 = omega (arith, ranged.1) in
-    elim item.late as (λ b. IsNear item.stamp (cond b (unchanged (states.Count (one_more late) windows))
-    (outcome_with_timer (states.Count late (counted windows end)) end item))) [
-      | true ↦ record { timers = tt; productions = tt }
-      | false ↦ record { timers = (near, tt); productions = tt }
-    ]
-record-near (kinds.Count size) key (states.Injector cursor) item ranged = record { timers = tt; productions = tt }
-record-near (kinds.Count size) key (states.Spike late held known) item ranged = record { timers = tt; productions = tt }
-record-near (kinds.Count size) key (states.Pass late) item ranged = record { timers = tt; productions = tt }
-record-near (kinds.Spike last times) key (states.Spike late held known) item ranged =
-    let due : ℕ = due_time item.stamp in
-    let near : due ≤ item.stamp + 2 ^ 40 = omega arith in
-    elim item.late as (λ b. IsNear item.stamp (cond b (unchanged (states.Spike (one_more late) held known))
-    (outcome_with_timer (states.Spike late (held_with held item.stamp item.value) known) due item))) [
-      | true ↦ record { timers = tt; productions = tt }
-      | false ↦ record { timers = (near, tt); productions = tt }
-    ]
-record-near (kinds.Spike last times) key (states.Injector cursor) item ranged = record { timers = tt; productions = tt }
-record-near (kinds.Spike last times) key (states.Count late windows) item ranged = record { timers = tt; productions = tt }
-record-near (kinds.Spike last times) key (states.Pass late) item ranged = record { timers = tt; productions = tt }
-record-near kinds.Pass key (states.Pass late) item ranged = record { timers = tt; productions = (omega arith, tt) }
-record-near kinds.Pass key (states.Injector cursor) item ranged = record { timers = tt; productions = tt }
-record-near kinds.Pass key (states.Count late windows) item ranged = record { timers = tt; productions = tt }
-record-near kinds.Pass key (states.Spike late held known) item ranged = record { timers = tt; productions = tt }
-
--- what a timer brings about is at most at its time
-abbrev AreBy : ℕ → EffectsView → Type 0
-AreBy time o = AllByRecursion (λ (p : Production). p.stamp ≤ time) o.productions
-
--- of a count
-count-by : (key : List ℕ) (late time : ℕ) (windows : List Window) (due : Option Window) → IfSome due (λ w. w.end ≡ time)
-    → AreBy time (count_timer key late windows due)
-count-by key late time windows None ends = tt
-count-by key late time windows (Some due) ends = (omega (arith, ends), tt)
-
--- of a spike
-spike-by : (last times : ℕ) (key : List ℕ) (late time : ℕ) (held : List HeldTotal) (known : List ℤ) (due : Option HeldTotal)
-    → IfSome due (λ h. due_time h.stamp ≡ time) → AreBy time (spike_timer last times key late held known due)
-spike-by last times key late time held known None ends = tt
-spike-by last times key late time held known (Some due) ends =
-    let state : State = states.Spike late (filter (λ (h : HeldTotal). not (h.stamp == due.stamp)) held) (known_with last known due.value) in
-    elim (is_spike last times known due.value) as (λ b. AreBy time
-    (cond b (outcome_with_record state key (due_time due.stamp) due.value) (unchanged state))) [
-      | true ↦ (omega (arith, ends), tt)
-      | false ↦ tt
-    ]
-
--- of a timer, whatever the kind
-timer-by : (kind : Kind) (key : List ℕ) (state : State) (timer : Timer) → AreBy timer.time (effects_of kind key state (OfTimer timer))
-timer-by (kinds.Count size) key (states.Count late windows) timer = count-by key late timer.time windows (window_due windows timer)
-    (window_due-time windows timer)
-timer-by (kinds.Count size) key (states.Injector cursor) timer = tt
-timer-by (kinds.Count size) key (states.Spike late held known) timer = tt
-timer-by (kinds.Count size) key (states.Pass late) timer = tt
-timer-by (kinds.Spike last times) key (states.Spike late held known) timer =
-    spike-by last times key late timer.time held known (total_due held timer) (total_due-time held timer)
-timer-by (kinds.Spike last times) key (states.Injector cursor) timer = tt
-timer-by (kinds.Spike last times) key (states.Count late windows) timer = tt
-timer-by (kinds.Spike last times) key (states.Pass late) timer = tt
-timer-by kinds.Pass key state timer = tt
-
--- ---- along a history
+-- ---- what is graded
 
 -- a delivery is within its part's grade
 abbrev pub IsGraded : Delivery → Type 0
@@ -145,6 +66,66 @@ sent-graded shape part productions late commit rules there near =
     (All-from_recursion (λ f. f < s.to) (feeds_of shape s.to) (feeds-before shape s.to rules)) has)
     (consumers_of shape part) (consumers-fed shape part there)) near
 
+-- ---- what a cause brings about
+
+-- a record is within the grade of its part, and a timer within a step of it
+abbrev IsGradedCause : ℕ → Cause → Type 0
+IsGradedCause part (OfRecord item) = item.stamp ≤ grade part
+IsGradedCause part (OfTimer timer) = timer.time ≤ grade part + 2 ^ 40
+
+-- such a cause is in time
+graded-in_time : (shape : Shape) (part : ℕ) (cause : Cause) → IsTopology shape → part < parts_of shape → IsGradedCause part cause
+    → stamp_of cause ≤ MAX_STAMP
+graded-in_time shape part (OfRecord item) rules there low = omega (arith, there, low, rules.few_injectors, rules.few_computations)
+graded-in_time shape part (OfTimer timer) rules there low = omega (arith, there, low, rules.few_injectors, rules.few_computations)
+
+-- what is near it is within a step of the grade
+near-graded : (part : ℕ) (cause : Cause) (stamp : ℕ) → IsGradedCause part cause → IsNear cause stamp → stamp ≤ grade part + 2 ^ 40
+near-graded part (OfRecord item) stamp low near = omega (arith, low, near)
+near-graded part (OfTimer timer) stamp low near = omega (arith, low, near)
+
+-- and so are the timers that it sets, which are of a record
+set-graded : (part : ℕ) (cause : Cause) (set : List Timer) → IsGradedCause part cause → (is_record cause ≡ false → set ≡ [])
+    → AllByRecursion (IsTimerAfter cause) set → AllByRecursion (IsDueBy part) set
+set-graded part (OfRecord item) set low none after = each-weaker (IsTimerAfter (OfRecord item)) (IsDueBy part)
+    (λ t (is : IsTimerAfter (OfRecord item) t). let near = is.near in omega (arith, low, near)) set after
+set-graded part (OfTimer timer) set low none after = subst (AllByRecursion (IsDueBy part)) (sym (none refl)) tt
+
+module _ (case : CaseShape) (runs : IsRunnable case) (run : Run) (entry : Entry) (name : RowName) (cause : Cause) (effects : EffectsView)
+    (graded : AreGraded case.topology run) (caused : IsCaused case run entry name cause effects) where
+  -- a cause is graded
+  caused-graded : IsGradedCause name.part cause
+  caused-graded = of_standing case run name cause IsGraded (IsDueBy name.part) (IsGradedCause name.part) graded.waiting
+      (graded.timers name) (λ d to low. subst (λ (r : RowName). d.item.stamp ≤ grade r.part) to low) (λ t due. due) caused.stands
+
+  -- its part is there
+  there : name.part < parts_of case.topology
+  there = caused-there case run entry name cause effects caused
+
+  -- the kind of its part is in range
+  ranged : IsKind caused.outcome.kind
+  ranged = kind-ranged case.topology name.part caused.outcome.kind runs.topology caused.outcome.of_part
+
+  -- it is in time
+  in_time : stamp_of cause ≤ MAX_STAMP
+  in_time = graded-in_time case.topology name.part cause runs.topology there caused-graded
+
+  -- what it makes is graded
+  caused-sent_graded : AllByRecursion IsGraded (deliveries_of case.topology run.made run.next entry)
+  caused-sent_graded = caused-sent case run entry name cause effects caused IsGraded
+      (sent-graded case.topology name.part effects.productions (late_cause run.made entry) run.next runs.topology there
+      (each-weaker (IsProductionAfter cause) (λ (p : Production). p.stamp ≤ grade name.part + 2 ^ 40)
+      (λ p (is : IsProductionAfter cause p). near-graded name.part cause p.stamp caused-graded is.near) effects.productions
+      (caused.outcome.leaves.productions.each ranged in_time)))
+
+  -- and so are the timers of its row
+  caused-due : (sent : List Delivery) → AllByRecursion (IsDueBy name.part) (changed entry sent (row_of case.topology run name)).timers
+  caused-due sent = caused.timers (IsDueBy name.part) (λ t u tied p q. q) sent (row_of case.topology run name)
+      (set-graded name.part cause effects.timers caused-graded caused.outcome.leaves.timers.none
+      (caused.outcome.leaves.timers.each ranged in_time)) (graded.timers name)
+
+-- ---- along a history
+
 module _ (case : CaseShape) (runs : IsRunnable case) where
   abbrev shape : Shape
   shape = case.topology
@@ -158,27 +139,9 @@ module _ (case : CaseShape) (runs : IsRunnable case) where
       sent-graded shape part (record { key = item.key; stamp = item.stamp; value = item.value } ∷ []) item.late run.next runs.topology
       (omega (arith, within)) (omega (arith, input), tt)
   entry-near run (Handle seq row id effects) graded may =
-      let kind = was_some (λ (kind : Kind). effects_of kind row.key (row_of shape run row).state (OfRecord may.delivery.item))
-      (kind_of shape row.part) effects may.does in
-      let stamp : may.delivery.item.stamp ≤ grade may.delivery.to.part = find-each IsGraded
-      (λ (d : Delivery). same_id d.id id) run.unhandled may.delivery graded.waiting may.waits in
-      let here : may.delivery.item.stamp ≤ grade row.part = subst
-      (λ (r : RowName). may.delivery.item.stamp ≤ grade r.part) may.to_row stamp in
-      let near : IsNear may.delivery.item.stamp effects = subst (IsNear may.delivery.item.stamp) kind.2
-      (record-near kind.0 row.key (row_of shape run row).state may.delivery.item
-      (kind-ranged shape row.part kind.0 runs.topology kind.1)) in
-      sent-graded shape row.part effects.productions _ run.next runs.topology (kind-there shape row.part kind.0 kind.1)
-      (each-weaker (λ (p : Production). p.stamp ≤ may.delivery.item.stamp + 2 ^ 40) (λ (p : Production). p.stamp ≤ grade row.part + 2 ^ 40)
-      (λ p low. omega (arith, low, here)) effects.productions near.productions)
+      caused-sent_graded case runs run _ row _ effects graded (caused-handle case run seq row id effects row may refl)
   entry-near run (Fire seq row timer mark effects) graded may =
-      let kind = was_some (λ (kind : Kind). effects_of kind row.key (row_of shape run row).state (OfTimer timer))
-      (kind_of shape row.part) effects may.does in
-      let due : timer.time ≤ grade row.part + 2 ^ 40 = each-at (IsDueBy row.part) (row_of shape run row).timers 0 timer
-      (graded.timers row) may.least_timer in
-      let by : AreBy timer.time effects = subst (AreBy timer.time) kind.2 (timer-by kind.0 row.key (row_of shape run row).state timer) in
-      sent-graded shape row.part effects.productions _ run.next runs.topology (kind-there shape row.part kind.0 kind.1)
-      (each-weaker (λ (p : Production). p.stamp ≤ timer.time) (λ (p : Production). p.stamp ≤ grade row.part + 2 ^ 40)
-      (λ p low. omega (arith, low, due)) effects.productions by)
+      caused-sent_graded case runs run _ row _ effects graded (caused-fire case run seq row timer mark effects row may refl)
   entry-near run _ graded may = tt
 
   -- the timers that an entry leaves in its row
@@ -186,23 +149,9 @@ module _ (case : CaseShape) (runs : IsRunnable case) where
       → row_written entry ≡ Some name
       → AllByRecursion (IsDueBy name.part) (changed entry sent (row_of shape run name)).timers
   timers-near run (Handle seq row id effects) sent name graded may here =
-      let same : row ≡ name = some_same row name here in
-      let kind = was_some (λ (kind : Kind). effects_of kind row.key (row_of shape run row).state (OfRecord may.delivery.item))
-      (kind_of shape row.part) effects may.does in
-      let stamp : may.delivery.item.stamp ≤ grade may.delivery.to.part = find-each IsGraded
-      (λ (d : Delivery). same_id d.id id) run.unhandled may.delivery graded.waiting may.waits in
-      let there : may.delivery.item.stamp ≤ grade name.part =
-      subst (λ (r : RowName). may.delivery.item.stamp ≤ grade r.part) same
-      (subst (λ (r : RowName). may.delivery.item.stamp ≤ grade r.part) may.to_row stamp) in
-      let near : IsNear may.delivery.item.stamp effects = subst (IsNear may.delivery.item.stamp) kind.2
-      (record-near kind.0 row.key (row_of shape run row).state may.delivery.item
-      (kind-ranged shape row.part kind.0 runs.topology kind.1)) in
-      with_timers-each (IsDueBy name.part) (λ t u tied p q. q) effects.timers (row_of shape run name).timers
-      (each-weaker (λ (t : Timer). t.time ≤ may.delivery.item.stamp + 2 ^ 40) (IsDueBy name.part)
-      (λ t low. omega (arith, low, there)) effects.timers near.timers)
-      (graded.timers name)
+      caused-due case runs run _ name _ effects graded (caused-handle case run seq row id effects name may here) sent
   timers-near run (Fire seq row timer mark effects) sent name graded may here =
-      each-filter (IsDueBy name.part) (λ t. not (is_timer timer.tag timer.time t)) (row_of shape run name).timers (graded.timers name)
+      caused-due case runs run _ name _ effects graded (caused-fire case run seq row timer mark effects name may here) sent
   timers-near run _ sent name graded may here = graded.timers name
 
   -- one more entry keeps it so
@@ -228,3 +177,12 @@ module _ (case : CaseShape) (runs : IsRunnable case) where
 pub legal-graded : (case : CaseShape) (history : List Entry) → IsRunnable case → IsLegal case history
     → AreGraded case.topology (run_of case.topology history)
 legal-graded case history runs legal = graded-all case runs history legal
+
+-- what waits for a part is below the greatest timestamp
+pub waits-small : (case : CaseShape) (run : Run) (name : RowName) (id : RecordId) (d : Delivery) → IsRunnable case
+    → AreGraded case.topology run → name.part < parts_of case.topology → found_delivery id run.unhandled ≡ Some d → d.to ≡ name
+    → d.item.stamp < MAX_STAMP
+waits-small case run name id d runs graded there waits to_row =
+    let low : d.item.stamp ≤ grade name.part = subst (λ (r : RowName). d.item.stamp ≤ grade r.part) to_row
+    (find-each IsGraded (λ (e : Delivery). same_id e.id id) run.unhandled d graded.waiting waits) in
+    omega (arith, low, there, runs.topology.few_injectors, runs.topology.few_computations)

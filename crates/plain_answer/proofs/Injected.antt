@@ -7,20 +7,19 @@ use Rattle.std.proofs.lemmas.List.{append-nil, take_more}
 use Rattle.std.proofs.lemmas.Option.{slice_get_within, get_or_from_slice_get}
 use Rattle.mw_types.specs.declared.identity.RowName.{RowName}
 use Rattle.mw_types.specs.declared.record.Record.{Record}
-use Rattle.mw_types.specs.declared.kind.Kind.{Kind}
 use Rattle.mw_types.specs.declared.state.State.TheVariants as states
 use Rattle.mw_types.specs.declared.entry.Entry.{Entry}
 use Rattle.mw_types.specs.declared.entry.Entry.TheVariants.{Claim, Inject, Handle, Fire, Ack, Purge}
 use Rattle.injector.specs.Sources.{SourceLine}
 use Rattle.topology.specs.Shapes.{Shape, ComputationShape, kind_of, injectors_of}
 use Rattle.row_parts.specs.Contents.{Contents, cursor_in}
-use Rattle.computations.specs.Handlers.{fresh_state, effects_of, OfRecord, OfTimer}
+use Rattle.computations.specs.Handlers.{fresh_state}
 use Rattle.run_history.specs.Cases.{CaseShape, is_injector, source_of, record_of}
 use Rattle.run_history.specs.Made.{row_written}
 use Rattle.run_history.specs.Runs.{Run, run_of, row_of, followed, advanced}
 use Rattle.run_history.specs.Legal.{MayInject, MayFollow, IsLegal}
 use Rattle.run_history.proofs.RunLaws.{run_of-push}
-use Rattle.history_laws.proofs.PendingLaws.{was_some}
+use Rattle.history_laws.proofs.Caused.{caused-handle, caused-fire}
 use Rattle.history_laws.proofs.RowSteps.{row_of-step, row_of-here, row_of-elsewhere}
 use Rattle.history_laws.proofs.StampLaws.{line_of}
 use Rattle.list_lemmas.proofs.Lists.{none_some, some_same}
@@ -115,13 +114,11 @@ module _ (case : CaseShape) (part : ℕ) (is : is_injector case.topology part �
         | false ↦ λ e. elsewhere h (Inject seq other line item) (record { part = other; key = [] }) was refl e
       ] refl
   step h (Handle seq row id effects) legal may was =
-      let kind = was_some (λ (kind : Kind). effects_of kind row.key (row_of shape (run_of shape h) row).state (OfRecord may.delivery.item))
-      (kind_of shape row.part) effects may.does in
-      elsewhere h (Handle seq row id effects) row was refl (injector-apart shape part row.part kind.0 is kind.1)
+      let outcome = (caused-handle case (run_of shape h) seq row id effects row may refl).outcome in
+      elsewhere h (Handle seq row id effects) row was refl (injector-apart shape part row.part outcome.kind is outcome.of_part)
   step h (Fire seq row timer mark effects) legal may was =
-      let kind = was_some (λ (kind : Kind). effects_of kind row.key (row_of shape (run_of shape h) row).state (OfTimer timer))
-      (kind_of shape row.part) effects may.does in
-      elsewhere h (Fire seq row timer mark effects) row was refl (injector-apart shape part row.part kind.0 is kind.1)
+      let outcome = (caused-fire case (run_of shape h) seq row timer mark effects row may refl).outcome in
+      elsewhere h (Fire seq row timer mark effects) row was refl (injector-apart shape part row.part outcome.kind is outcome.of_part)
   step h (Ack seq row id) legal may was =
       stays h (Ack seq row id) was (added-nothing (Ack seq row id) refl)
       (λ n state. row_of-step shape (run_of shape h) (Ack seq row id) name (λ c. c.state ≡ states.Injector n) state (λ written. state))

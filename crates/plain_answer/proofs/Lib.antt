@@ -2,6 +2,7 @@ pub mod Stories
 pub mod Handled
 pub mod Sent
 pub mod Members
+pub mod Causes
 pub mod Injected
 pub mod Passing
 pub mod Counting

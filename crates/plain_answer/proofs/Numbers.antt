@@ -13,15 +13,15 @@ use Rattle.mw_types.specs.declared.entry.Entry.{Entry}
 use Rattle.mw_types.specs.declared.entry.Entry.TheVariants.{Claim, Inject, Handle, Fire, Ack, Purge}
 use Rattle.injector.specs.Sources.{Source, SourceLine}
 use Rattle.topology.specs.Shapes.{Shape, ComputationShape, injectors_of, kind_of}
-use Rattle.computations.specs.Handlers.{effects_of, OfRecord, OfTimer}
 use Rattle.run_history.specs.Cases.{CaseShape, record_of}
 use Rattle.run_history.specs.Inputs.{IsRunnable}
 use Rattle.run_history.specs.Made.{late_cause, produced}
-use Rattle.run_history.specs.Runs.{Run, run_of, row_of}
+use Rattle.run_history.specs.Runs.{Run, run_of}
 use Rattle.run_history.specs.Legal.{MayFollow, IsLegal, IsDone}
 use Rattle.run_history.specs.Texts.{is_inject, is_handle, is_fire, is_late}
+use Rattle.history_laws.proofs.Caused.{caused-handle, caused-fire, caused-no_injector}
 use Rattle.history_laws.proofs.FeedLaws.{injector-no_kind}
-use Rattle.history_laws.proofs.PendingLaws.{kind-there, was_some}
+use Rattle.history_laws.proofs.PendingLaws.{kind-there}
 use Rattle.list_lemmas.proofs.Lists.{each-append}
 use Rattle.list_lemmas.proofs.Totals.{total, when, total-sum_by, total-append, total-push, total-map, total-length, total-count_by, total-each, total-same, total-swap, HaveSameTotals}
 use Rattle.plain_answer.specs.Plain.{Keyed, members_read, plain_streams, plain_members, fires_of, fired_of, handled_of, sources_of, injected_of, injected_count, late_count}
@@ -117,10 +117,10 @@ done-placed case = along_legal case (λ h. AllByRecursion (IsPlaced case.topolog
   where
     new : (run : Run) (entry : Entry) → MayFollow case run entry → AllByRecursion (IsPlaced case.topology) (handled_by run entry)
     new run (Handle seq row id effects) may =
-        let kind = was_some (λ (kind : Kind). effects_of kind row.key (row_of case.topology run row).state (OfRecord may.delivery.item))
-        (kind_of case.topology row.part) effects may.does in
+        let outcome = (caused-handle case run seq row id effects row may refl).outcome in
         subst (λ o. AllByRecursion (IsPlaced case.topology) (option_to_list o)) (sym may.waits)
-        (kind-placed case.topology may.delivery.to.part kind.0 (ap (λ (r : RowName). kind_of case.topology r.part) may.to_row ∙ kind.1), tt)
+        (kind-placed case.topology may.delivery.to.part outcome.kind
+        (ap (λ (r : RowName). kind_of case.topology r.part) may.to_row ∙ outcome.of_part), tt)
     new run _ may = tt
 
 -- ---- timers that fire
@@ -158,9 +158,8 @@ fires-placed case = along_legal case
         → when (is_fire entry) 1 ≡ total (λ (c : ℕ × ComputationShape). fires_on c.0 entry)
         (enumerate_from (injectors_of case.topology) case.topology.computations)
     one run (Fire seq row timer mark effects) may =
-        let kind = was_some (λ (kind : Kind). effects_of kind row.key (row_of case.topology run row).state (OfTimer timer))
-        (kind_of case.topology row.part) effects may.does in
-        sym (kind-placed case.topology row.part kind.0 kind.1)
+        let outcome = (caused-fire case run seq row timer mark effects row may refl).outcome in
+        sym (kind-placed case.topology row.part outcome.kind outcome.of_part)
     one run _ may = none (enumerate_from (injectors_of case.topology) case.topology.computations)
 
 -- ---- lines that are injected
@@ -194,12 +193,9 @@ injected-total case f = along_legal case
     produces part late (p ∷ ps) behind =
         omega (arith, ap (λ b. when b (f (produced late p))) behind, produces part late ps behind)
 
-    no-injector : (part : ℕ) (kind : Kind) → kind_of case.topology part ≡ Some kind → nat_lt part (injectors_of case.topology) ≡ false
-    no-injector part kind of = elim (nat_lt part (injectors_of case.topology)) as
-        (λ b. nat_lt part (injectors_of case.topology) ≡ b → b ≡ false) [
-          | true ↦ λ e. absurd (injector-no_kind case.topology part kind e of)
-          | false ↦ λ e. refl
-        ] refl
+    no-injector : (b : Bool) → (b ≡ true → ⊥) → b ≡ false
+    no-injector true none = absurd (none refl)
+    no-injector false none = refl
 
     one : (run : Run) (entry : Entry) → MayFollow case run entry
         → of_injected f entry ≡ total (λ (o : Member). when (nat_lt o.0 (injectors_of case.topology)) (f o.1)) (added_by run entry)
@@ -208,13 +204,13 @@ injected-total case f = along_legal case
         let none : f item ≡ f item + 0 = omega arith in
         none ∙ sym (ap (λ b. when b (f item) + 0) is)
     one run (Handle seq row id effects) may =
-        let kind = was_some (λ (kind : Kind). effects_of kind row.key (row_of case.topology run row).state (OfRecord may.delivery.item))
-        (kind_of case.topology row.part) effects may.does in
-        produces row.part (late_cause run.made (Handle seq row id effects)) effects.productions (no-injector row.part kind.0 kind.1)
+        produces row.part (late_cause run.made (Handle seq row id effects)) effects.productions
+        (no-injector (nat_lt row.part (injectors_of case.topology)) (caused-no_injector case run _ row _ effects
+        (caused-handle case run seq row id effects row may refl)))
     one run (Fire seq row timer mark effects) may =
-        let kind = was_some (λ (kind : Kind). effects_of kind row.key (row_of case.topology run row).state (OfTimer timer))
-        (kind_of case.topology row.part) effects may.does in
-        produces row.part timer.late effects.productions (no-injector row.part kind.0 kind.1)
+        produces row.part timer.late effects.productions
+        (no-injector (nat_lt row.part (injectors_of case.topology)) (caused-no_injector case run _ row _ effects
+        (caused-fire case run seq row timer mark effects row may refl)))
     one run _ may = refl
 
 -- a sum over the records of sources

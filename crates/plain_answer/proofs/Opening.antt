@@ -32,8 +32,7 @@ use Rattle.history_laws.proofs.RowSteps.{same_row}
 use Rattle.history_laws.proofs.StampLaws.{AreInTime, AreInTime-followed, legal-in_time}
 use Rattle.history_laws.proofs.WorkLaws.{WaitsFrom, IsWorkFrom}
 use Rattle.plain_answer.specs.Deeds.{Deed, took, fired, after_deed, windows_after, fired_at, fires_at, open_window, IsTimely, taken, deeds_in, Told, told, told_of, deeds_of}
-use Rattle.plain_answer.specs.Grades.{grade}
-use Rattle.plain_answer.proofs.Grading.{IsGraded, AreGraded, next-graded}
+use Rattle.plain_answer.proofs.Grading.{AreGraded, next-graded, waits-small}
 use Rattle.plain_answer.proofs.WindowLaws.{HasWindows, HasWindows-next}
 
 -- what an entry does on a row: nothing, or one thing that keeps windows that fired closed
@@ -48,10 +47,6 @@ module _ (case : CaseShape) (name : RowName) (size : ℕ) (runs : IsRunnable cas
   -- the part is there
   there : name.part < parts_of shape
   there = kind-there shape name.part (kinds.Count size) kind
-
-  -- there are at most 48 parts
-  few_parts : parts_of shape ≤ 48
-  few_parts = omega (arith, runs.topology.few_injectors, runs.topology.few_computations)
 
   -- windows last something
   some_size : 1 ≤ size
@@ -76,10 +71,7 @@ module _ (case : CaseShape) (name : RowName) (size : ℕ) (runs : IsRunnable cas
             (λ (e : Delivery). same_id e.id id) run.unhandled d work.waiting waits in
             let not_before : end ≤ d.item.stamp = from (and_from _ _
             (eq-eqb d.to.part name.part (ap (λ (r : RowName). r.part) to_row)) (ap not in_time)) in
-            let graded : d.item.stamp ≤ grade d.to.part = find-each IsGraded
-            (λ (e : Delivery). same_id e.id id) run.unhandled d below.waiting waits in
-            let here : d.item.stamp ≤ grade name.part = subst (λ (r : RowName). d.item.stamp ≤ grade r.part) to_row graded in
-            let small : d.item.stamp < MAX_STAMP = omega (arith, here, there, few_parts) in
+            let small : d.item.stamp < MAX_STAMP = waits-small case run name id d runs below there waits to_row in
             let after : d.item.stamp < end = omega (arith, small, some_size) in
             absurd (omega (arith, not_before, after))
         | inr none ↦ omega (arith, none)

@@ -1,9 +1,9 @@
 -- Part by part: at the end the streams of a history have the totals of the plain streams.
-use Rattle.std.proofs.Common.{◌≡◌, ℕ, zero, suc, ◌+◌, ◌-◌, ◌<◌, ◌≤◌, ◌==◌, Bool, true, false, cond, List, [], ◌∷◌, ◌++◌, length, map, filter, Some, None, refl, sym, ◌∙◌, ap, subst, arith, append_assoc, length-append}
-use Rattle.std.specs.Prelude.{nat_lt, slice_get, Contains}
+use Rattle.std.proofs.Common.{◌≡◌, ℕ, zero, suc, ◌+◌, ◌-◌, ◌<◌, ◌≤◌, ◌==◌, Bool, true, false, cond, List, [], ◌∷◌, ◌++◌, length, map, filter, Option, Some, None, refl, sym, ◌∙◌, ap, subst, arith, append_assoc, length-append}
+use Rattle.std.specs.Prelude.{nat_lt, slice_get, Contains, IfSome}
 use Rattle.std.specs.Option.{option_map, option_map_or}
 use Rattle.std.specs.List.{AllByRecursion, flat_map, enumerate_from, range_with_len}
-use Rattle.std.proofs.lemmas.Bool.{ltb-true, ltb-false, lt-ltb}
+use Rattle.std.proofs.lemmas.Bool.{ltb-false, lt-ltb}
 use Rattle.std.proofs.lemmas.Bool.Decides.{nat_tests}
 use Rattle.std.proofs.lemmas.List.{take_all, append-nil}
 use Rattle.std.proofs.lemmas.List.Elements.{All-contains, All-from_recursion}
@@ -13,20 +13,21 @@ use Rattle.mw_types.specs.declared.record.Production.{Production}
 use Rattle.mw_types.specs.declared.kind.Kind.{Kind}
 use Rattle.mw_types.specs.declared.delivery.Delivery.{Delivery}
 use Rattle.mw_types.specs.declared.entry.Entry.{Entry}
-use Rattle.mw_types.specs.declared.entry.Entry.TheVariants.{Inject, Handle, Fire}
 use Rattle.topology.specs.declared.subscription.Subscription.{Subscription}
 use Rattle.topology.specs.Shapes.{Shape, ComputationShape, injectors_of, parts_of, consumers_of, feeds_of, kind_of}
 use Rattle.injector.specs.Sources.{SourceLine}
-use Rattle.computations.specs.Handlers.{effects_of, OfRecord, OfTimer}
 use Rattle.row_parts.specs.Contents.{cursor_in}
 use Rattle.run_history.specs.Cases.{CaseShape, is_injector, source_of, record_of}
 use Rattle.run_history.specs.Inputs.{IsRunnable}
 use Rattle.run_history.specs.Made.{row_written, productions_of, late_cause, sends_of, row_to}
-use Rattle.run_history.specs.Runs.{Run, run_of, row_of}
-use Rattle.run_history.specs.Legal.{MayFollow, IsLegal, IsDone}
+use Rattle.run_history.specs.Runs.{Run, run_of}
+use Rattle.run_history.specs.Legal.{IsLegal, IsDone}
+use Rattle.run_history.specs.Printing.{IsOnPart}
+use Rattle.run_history.proofs.RunLaws.{IsLegal-push}
 use Rattle.history_laws.proofs.FeedLaws.{consumers-fed, feeds-before}
-use Rattle.history_laws.proofs.PendingLaws.{kind-there, was_some}
+use Rattle.history_laws.proofs.PrintLaws.{legal-on_parts}
 use Rattle.list_lemmas.proofs.Lists.{each-append, each-map, each-all, each-weaker}
+use Rattle.list_lemmas.proofs.Places.{each-behind}
 use Rattle.list_lemmas.proofs.Totals.{total, when, total-append, total-map, total-filter, total-flat_map, total-same, total-each, total-both, HaveSameTotals}
 use Rattle.plain_answer.specs.Plain.{Keyed, members_read, plain_of, injected_of, sources_of, streams_with, plain_streams}
 use Rattle.plain_answer.specs.Stories.{Member, member_of, added_by, done_of, out_of}
@@ -92,30 +93,16 @@ members-total shape g streams part =
 abbrev pub IsThere : Shape → Member → Type 0
 IsThere shape o = o.0 < parts_of shape
 
--- what a row of a part that is there adds
-added-there : (shape : Shape) (run : Run) (entry : Entry) (row : RowName) → row_written entry ≡ Some row → row.part < parts_of shape
-    → AllByRecursion (IsThere shape) (added_by run entry)
-added-there shape run entry row written there =
-    subst (λ o. AllByRecursion (IsThere shape) (option_map_or
-    (λ (row : RowName). map (member_of row.part (late_cause run.made entry)) (productions_of entry)) o []))
-    (sym written)
-    (each-map (IsThere shape) (member_of row.part (late_cause run.made entry)) (productions_of entry)
-    (each-all (λ (p : Production). row.part < parts_of shape) (λ p. there) (productions_of entry)))
-
--- what an entry adds
-entry-there : (case : CaseShape) (run : Run) (entry : Entry) → MayFollow case run entry
-    → AllByRecursion (IsThere case.topology) (added_by run entry)
-entry-there case run (Inject seq part line item) may =
-    let less = ltb-true part (injectors_of case.topology) may.injector in (omega (arith, less), tt)
-entry-there case run (Handle seq row id effects) may =
-    let kind = was_some (λ (kind : Kind). effects_of kind row.key (row_of case.topology run row).state (OfRecord may.delivery.item))
-    (kind_of case.topology row.part) effects may.does in
-    added-there case.topology run (Handle seq row id effects) row refl (kind-there case.topology row.part kind.0 kind.1)
-entry-there case run (Fire seq row timer mark effects) may =
-    let kind = was_some (λ (kind : Kind). effects_of kind row.key (row_of case.topology run row).state (OfTimer timer))
-    (kind_of case.topology row.part) effects may.does in
-    added-there case.topology run (Fire seq row timer mark effects) row refl (kind-there case.topology row.part kind.0 kind.1)
-entry-there case run _ may = tt
+-- what an entry on a part that is there adds
+added-there : (shape : Shape) (run : Run) (entry : Entry) → IsOnPart shape entry → AllByRecursion (IsThere shape) (added_by run entry)
+added-there shape run entry on = by_row (row_written entry) on
+  where
+    by_row : (o : Option RowName) → IfSome o (λ (row : RowName). row.part < parts_of shape)
+        → AllByRecursion (IsThere shape) (option_map_or
+        (λ (row : RowName). map (member_of row.part (late_cause run.made entry)) (productions_of entry)) o [])
+    by_row None on = tt
+    by_row (Some row) on = each-map (IsThere shape) (member_of row.part (late_cause run.made entry)) (productions_of entry)
+        (each-all (λ (p : Production). row.part < parts_of shape) (λ p. on) (productions_of entry))
 
 -- what is in the streams after each legal history
 pub out-there : (case : CaseShape) (h : List Entry) → IsLegal case h → AllByRecursion (IsThere case.topology) (out_of case.topology h)
@@ -123,7 +110,8 @@ out-there case = along_legal case (λ h. AllByRecursion (IsThere case.topology) 
     (λ h entry legal may was.
     subst (AllByRecursion (IsThere case.topology)) (sym (out-push case.topology h entry))
     (each-append (IsThere case.topology) (out_of case.topology h) (added_by (run_of case.topology h) entry) was
-    (entry-there case (run_of case.topology h) entry may)))
+    (added-there case.topology (run_of case.topology h) entry (each-behind (IsOnPart case.topology) h (entry ∷ [])
+    (legal-on_parts case (h ++ entry ∷ []) (IsLegal-push case h entry legal may)).entries).0)))
     tt
 
 -- ---- a part reads what is before it

@@ -1,14 +1,9 @@
 -- The stream of a pass has what its rows handled, and no row of it fires.
 use Rattle.std.proofs.Common.{◌≡◌, ℕ, ◌==◌, true, false, cond, List, [], ◌∷◌, ◌++◌, map, filter, Some, refl, sym, ◌∙◌, ap, arith}
 use Rattle.std.specs.Prelude.{option_to_list, slice_get}
-use Rattle.std.specs.Option.{option_map}
-use Rattle.std.proofs.lemmas.Bool.Decides.{nat_tests}
 use Rattle.std.proofs.lemmas.List.Elements.{filter-append}
-use Rattle.mw_types.specs.declared.identity.RecordId.{RecordId}
 use Rattle.mw_types.specs.declared.identity.RowName.{RowName}
 use Rattle.mw_types.specs.declared.record.Record.{Record}
-use Rattle.mw_types.specs.declared.timer.Timer.{Timer}
-use Rattle.mw_types.specs.declared.kind.Kind.{Kind}
 use Rattle.mw_types.specs.declared.kind.Kind.TheVariants as kinds
 use Rattle.mw_types.specs.declared.state.State.{State}
 use Rattle.mw_types.specs.declared.state.State.TheVariants as states
@@ -22,7 +17,7 @@ use Rattle.computations.specs.Handlers.{has_kind, effects_of, OfRecord, OfTimer}
 use Rattle.run_history.specs.Cases.{CaseShape}
 use Rattle.run_history.specs.Made.{row_written, produced}
 use Rattle.run_history.specs.Runs.{Run, run_of, row_of, changed}
-use Rattle.run_history.specs.Legal.{MayHandle, MayFire, MayFollow, IsLegal}
+use Rattle.run_history.specs.Legal.{MayFollow, IsLegal}
 use Rattle.run_history.proofs.RunLaws.{run_of-push}
 use Rattle.history_laws.proofs.FitLaws.{legal-of_kind, of_kind}
 use Rattle.history_laws.proofs.IdLaws.{legal-ids}
@@ -33,6 +28,7 @@ use Rattle.list_lemmas.proofs.Totals.{total, total-push}
 use Rattle.plain_answer.specs.Stories.{handled_by, added_by, done_of, out_of, fires_on}
 use Rattle.plain_answer.proofs.Stories.{done-push, out-push, along_legal}
 use Rattle.plain_answer.proofs.Members.{out_at, out_at-append, added-here, added-other, computation-apart}
+use Rattle.plain_answer.proofs.Causes.{kind-at, kind-left}
 
 -- what rows of a part handled
 abbrev pub done_at : ℕ → List Delivery → List Delivery
@@ -47,25 +43,6 @@ items-append : (one other : List Delivery) → items (one ++ other) ≡ items on
 items-append [] other = refl
 items-append (d ∷ ds) other = ap (λ l. d.item ∷ l) (items-append ds other)
 
--- a kind of a part, by the number of the part
-pub kind-at : (shape : Shape) (part own : ℕ) (kind : Kind) → kind_of shape part ≡ Some kind → (own == part) ≡ true
-    → kind_of shape own ≡ Some kind
-kind-at shape part own kind of e = let same : own ≡ part = grind (arith, nat_tests) in ap (kind_of shape) same ∙ of
-
--- what a handler of this kind left of a record
-pub record-left : (case : CaseShape) (run : Run) (row : RowName) (id : RecordId) (effects : EffectsView) (kind : Kind)
-    → (may : MayHandle case run row id effects) → kind_of case.topology row.part ≡ Some kind
-    → effects_of kind row.key (row_of case.topology run row).state (OfRecord may.delivery.item) ≡ effects
-record-left case run row id effects kind may of = some_same _ effects
-    (sym (ap (option_map (λ k. effects_of k row.key (row_of case.topology run row).state (OfRecord may.delivery.item))) of) ∙ may.does)
-
--- and of a timer
-pub timer-left : (case : CaseShape) (run : Run) (row : RowName) (timer : Timer) (mark : ℕ) (effects : EffectsView) (kind : Kind)
-    → MayFire case run row timer mark effects → kind_of case.topology row.part ≡ Some kind
-    → effects_of kind row.key (row_of case.topology run row).state (OfTimer timer) ≡ effects
-timer-left case run row timer mark effects kind may of = some_same _ effects
-    (sym (ap (option_map (λ k. effects_of k row.key (row_of case.topology run row).state (OfTimer timer))) of) ∙ may.does)
-
 -- a pass produces the record again
 pass-productions : (key : List ℕ) (state : State) (item : Record) → has_kind kinds.Pass state ≡ true
     → (effects_of kinds.Pass key state (OfRecord item)).productions ≡ record { key = item.key; stamp = item.stamp; value = item.value } ∷ []
@@ -77,9 +54,7 @@ pass-productions key (states.Spike late held known) item is = absurd cc
 -- a pass sets no timer
 pass-timers : (key : List ℕ) (state : State) (item : Record) → (effects_of kinds.Pass key state (OfRecord item)).timers ≡ []
 pass-timers key (states.Pass late) item = refl
-pass-timers key (states.Injector cursor) item = refl
-pass-timers key (states.Count late windows) item = refl
-pass-timers key (states.Spike late held known) item = refl
+pass-timers key state item = refl
 
 module _ (case : CaseShape) (part : ℕ) (kind : kind_of case.topology part ≡ Some kinds.Pass) where
   abbrev shape : Shape
@@ -106,7 +81,7 @@ module _ (case : CaseShape) (part : ℕ) (kind : kind_of case.topology part ≡ 
         | true ↦ λ e.
             let of = kind-at shape part row.part kinds.Pass kind e in
             let is = of_kind shape row.part kinds.Pass (row_of shape run row).state of ((legal-of_kind case h legal).states row) in
-            let left = record-left case run row id effects kinds.Pass may of in
+            let left = kind-left case row (row_of shape run row) (OfRecord d.item) effects kinds.Pass _ of refl may.does in
             let late = handled-late case h run seq row id effects (legal-ids case h legal) may in
             added-here part run entry row refl e
             ∙ (λ i. map (produced (late i)) ((sym (ap (λ (o : EffectsView). o.productions) left)
@@ -122,7 +97,7 @@ module _ (case : CaseShape) (part : ℕ) (kind : kind_of case.topology part ≡ 
       elim (row.part == part) as (λ b. (row.part == part) ≡ b → out_at part (added_by run entry) ≡ []) [
         | true ↦ λ e.
             let of = kind-at shape part row.part kinds.Pass kind e in
-            let left = timer-left case run row timer mark effects kinds.Pass may of in
+            let left = kind-left case row (row_of shape run row) (OfTimer timer) effects kinds.Pass _ of refl may.does in
             added-here part run entry row refl e
             ∙ ap (λ (o : EffectsView). map (produced timer.late) o.productions) (sym left)
         | false ↦ λ e. added-other part run entry row refl e
@@ -161,7 +136,8 @@ module _ (case : CaseShape) (part : ℕ) (kind : kind_of case.topology part ≡ 
       after h (Handle seq row id effects) may was written sent =
           let same : row ≡ name = some_same row name written in
           let of = kind-at shape part row.part kinds.Pass kind (ap (λ (r : RowName). r.part == part) same ∙ here) in
-          let left = record-left case (run_of shape h) row id effects kinds.Pass may of in
+          let left = kind-left case row (row_of shape (run_of shape h) row) (OfRecord may.delivery.item) effects kinds.Pass _ of refl
+          may.does in
           (λ i. Rattle.run_history.specs.Runs.with_timers
           ((sym (ap (λ (o : EffectsView). o.timers) left)
           ∙ pass-timers row.key (row_of shape (run_of shape h) row).state may.delivery.item) i) (was i))

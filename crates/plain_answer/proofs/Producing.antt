@@ -1,6 +1,5 @@
 -- What a row of a count produces where it fires.
 use Rattle.std.proofs.Common.{◌≡◌, ℕ, ◌<◌, ◌==◌, cond, List, ◌∷◌, ◌++◌, length, find, Option, Some, None, refl, sym, ◌∙◌, ap, arith, length-append}
-use Rattle.std.specs.Option.{option_map}
 use Rattle.mw_types.specs.declared.TheConstants.{MAX_STAMP}
 use Rattle.mw_types.specs.declared.identity.RowName.{RowName}
 use Rattle.mw_types.specs.declared.kind.Kind.TheVariants as kinds
@@ -10,14 +9,14 @@ use Rattle.mw_types.specs.declared.entry.Entry.{Entry}
 use Rattle.mw_types.specs.declared.entry.Entry.TheVariants.{Fire}
 use Rattle.mw_types.specs.Outcomes.{EffectsView}
 use Rattle.topology.specs.Shapes.{Shape, kind_of}
-use Rattle.computations.specs.Handlers.{count_timer, window_due, effects_of, OfTimer}
+use Rattle.computations.specs.Handlers.{count_timer, window_due, OfTimer}
 use Rattle.run_history.specs.Cases.{CaseShape}
 use Rattle.run_history.specs.Runs.{run_of, row_of, empty_run}
 use Rattle.run_history.specs.Legal.{MayFire, IsLegal}
 use Rattle.run_history.specs.Inputs.{IsRunnable}
-use Rattle.list_lemmas.proofs.Lists.{some_same}
 use Rattle.history_laws.proofs.Along.{AreLegal-apart}
 use Rattle.plain_answer.specs.Deeds.{windows_after, deeds_of, open_window, closing}
+use Rattle.plain_answer.proofs.Causes.{kind-left}
 use Rattle.plain_answer.proofs.Counting.{count-windows}
 use Rattle.plain_answer.proofs.Opening.{window-open}
 
@@ -45,11 +44,9 @@ module _ (case : CaseShape) (name : RowName) (size : ℕ) (runs : IsRunnable cas
       let counted = count-windows case name size kind before apart.0 in
       let long = length-append before (entry ∷ after) in
       let opened = window-open case name size runs kind before apart.0 (omega (arith, few, long)) timer.time in
-      let does : effects_of (kinds.Count size) name.key (row_of shape (run_of shape before) name).state (OfTimer timer) ≡ effects =
-      some_same _ effects (sym (ap (option_map (λ k. effects_of k name.key
-      (row_of shape (run_of shape before) name).state (OfTimer timer))) kind) ∙ may.does) in
-      let left : count_timer name.key counted.0 ws (window_due ws timer) ≡ effects =
-      sym (ap (λ st. effects_of (kinds.Count size) name.key st (OfTimer timer)) counted.1) ∙ does in
+      let left : count_timer name.key counted.0 ws (window_due ws timer) ≡ effects = kind-left case name
+      (row_of shape (run_of shape before) name) (OfTimer timer) effects (kinds.Count size) (states.Count counted.0 ws) kind counted.1
+      may.does in
       let due : window_due ws timer ≡ open_window size timer.time (deeds_of shape name before) =
       ap (λ n. cond (n == 0) (find (λ (w : Window). w.end == timer.time) ws) None) tag ∙ opened in
       ap (λ (o : EffectsView). o.productions) (sym left)

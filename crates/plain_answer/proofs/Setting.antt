@@ -17,7 +17,7 @@ use Rattle.mw_types.specs.declared.entry.Entry.TheVariants.{Claim, Inject, Handl
 use Rattle.mw_types.specs.Outcomes.{EffectsView}
 use Rattle.topology.specs.Shapes.{Shape, kind_of}
 use Rattle.row_parts.specs.Contents.{is_timer, without_timer, set_again, found_delivery}
-use Rattle.computations.specs.Handlers.{one_more, unchanged, outcome_with_timer, counted, count_record, window_end, effects_of, OfRecord}
+use Rattle.computations.specs.Handlers.{one_more, unchanged, outcome_with_timer, counted, count_record, window_end, OfRecord}
 use Rattle.run_history.specs.Cases.{CaseShape}
 use Rattle.run_history.specs.Made.{row_written}
 use Rattle.run_history.specs.Runs.{Run, run_of, row_of, followed, with_timers}
@@ -25,12 +25,12 @@ use Rattle.run_history.specs.Legal.{MayHandle, MayFire, MayFollow, IsLegal}
 use Rattle.run_history.proofs.RunLaws.{run_of-push}
 use Rattle.history_laws.proofs.FeedLaws.{injector-no_kind}
 use Rattle.history_laws.proofs.RowSteps.{on_row_or_not, row_of-here, row_of-elsewhere}
-use Rattle.history_laws.proofs.StampLaws.{with_timers-each}
+use Rattle.history_laws.proofs.Caused.{with_timers-each}
 use Rattle.list_lemmas.proofs.Lists.{none_some, some_same, each-weaker}
 use Rattle.list_lemmas.proofs.Places.{each-at}
 use Rattle.plain_answer.specs.Deeds.{Deed, took, fired, after_deed, windows_after, taken, deeds_in, deeds_of}
 use Rattle.plain_answer.proofs.Counting.{count-windows, tie, deeds-apart}
-use Rattle.plain_answer.proofs.Passing.{record-left}
+use Rattle.plain_answer.proofs.Causes.{kind-left}
 use Rattle.plain_answer.proofs.Stories.{deeds-push, along_legal}
 use Rattle.plain_answer.proofs.Timing.{or-either}
 
@@ -164,9 +164,8 @@ module _ (case : CaseShape) (name : RowName) (size : ℕ) (kind : kind_of case.t
       let ts : List Timer = (row_of shape run name).timers in
       let item : Record = may.delivery.item in
       let counts = count-windows case name size kind h legal in
-      let left : count_record size counts.0 ws item ≡ effects =
-      sym (ap (λ st. effects_of (kinds.Count size) name.key st (OfRecord item)) counts.1)
-      ∙ record-left case run name id effects (kinds.Count size) may kind in
+      let left : count_record size counts.0 ws item ≡ effects = kind-left case name (row_of shape run name) (OfRecord item) effects
+      (kinds.Count size) (states.Count counts.0 ws) kind counts.1 may.does in
       let takes : deeds_in name run entry ≡ took item.stamp item.late ∷ [] =
       ap (λ b. cond b (taken (found_delivery id run.unhandled)) []) (tie name) ∙ ap taken may.waits in
       more h entry (took item.stamp item.late ∷ []) (with_timers (count_record size counts.0 ws item).timers ts) takes

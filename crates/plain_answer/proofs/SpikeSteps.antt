@@ -34,9 +34,7 @@ spike-nothing last times key (states.Spike late held known) item =
       | true ↦ refl
       | false ↦ refl
     ]
-spike-nothing last times key (states.Injector cursor) item = refl
-spike-nothing last times key (states.Count late windows) item = refl
-spike-nothing last times key (states.Pass late) item = refl
+spike-nothing last times key state item = refl
 
 -- and of a timer only under its row's key
 pub spike-key : (last times : ℕ) (key : List ℕ) (state : State) (timer : Timer)
@@ -55,9 +53,7 @@ spike-key last times key (states.Spike late held known) timer = by_due (total_du
           | true ↦ (refl, tt)
           | false ↦ tt
         ]
-spike-key last times key (states.Injector cursor) timer = tt
-spike-key last times key (states.Count late windows) timer = tt
-spike-key last times key (states.Pass late) timer = tt
+spike-key last times key state timer = tt
 
 -- the first total is the one that is due at its time
 due-first : (h : HeldTotal) (hs : List HeldTotal) → total_due (h ∷ hs) (held_timer h) ≡ Some h

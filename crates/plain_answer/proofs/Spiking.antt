@@ -17,7 +17,6 @@ use Rattle.mw_types.specs.declared.kind.Kind.TheVariants as kinds
 use Rattle.mw_types.specs.declared.state.State.TheVariants as states
 use Rattle.mw_types.specs.declared.state.HeldTotal.{HeldTotal}
 use Rattle.mw_types.specs.declared.record.Record.{Record}
-use Rattle.mw_types.specs.declared.record.Production.{Production}
 use Rattle.mw_types.specs.declared.timer.Timer.{Timer}
 use Rattle.mw_types.specs.declared.delivery.Delivery.{Delivery}
 use Rattle.mw_types.specs.declared.entry.Entry.{Entry}
@@ -26,13 +25,13 @@ use Rattle.mw_types.specs.Orders.{row_cmp}
 use Rattle.mw_types.specs.Outcomes.{EffectsView}
 use Rattle.topology.specs.Shapes.{Shape, kind_of, parts_of}
 use Rattle.row_parts.specs.Contents.{Contents, found_delivery, same_id, without_timer}
-use Rattle.computations.specs.Handlers.{fresh_state, one_more, due_time, held_with, spike_record, effects_of, OfRecord, OfTimer}
+use Rattle.computations.specs.Handlers.{fresh_state, one_more, due_time, held_with, spike_record, OfRecord, OfTimer}
 use Rattle.run_history.specs.Cases.{CaseShape}
 use Rattle.run_history.specs.Inputs.{IsRunnable}
-use Rattle.run_history.specs.Made.{row_written, produced, late_cause}
+use Rattle.run_history.specs.Made.{row_written, produced}
 use Rattle.run_history.specs.Runs.{Run, run_of, row_of, followed, with_timers}
 use Rattle.run_history.specs.Watermarks.{low_watermark}
-use Rattle.run_history.specs.Legal.{MayHandle, MayFire, MayFollow, IsLegal}
+use Rattle.run_history.specs.Legal.{MayHandle, MayFire, MayFollow, IsLegal, outcome_of}
 use Rattle.run_history.proofs.RunLaws.{run_of-push}
 use Rattle.history_laws.proofs.FeedLaws.{injector-no_kind}
 use Rattle.history_laws.proofs.IdLaws.{legal-ids}
@@ -42,15 +41,14 @@ use Rattle.history_laws.proofs.RowSteps.{on_row_or_not, row_of-here, row_of-else
 use Rattle.history_laws.proofs.StampLaws.{legal-in_time}
 use Rattle.history_laws.proofs.WorkLaws.{WaitsFrom, IsWorkFrom}
 use Rattle.list_lemmas.proofs.Lists.{none_some, some_same, each-append, each-weaker, find-each}
-use Rattle.plain_answer.specs.Grades.{grade}
 use Rattle.plain_answer.specs.Plain.{sum_of_last, spike_at, spikes_in}
 use Rattle.plain_answer.specs.Places.{with_place}
 use Rattle.plain_answer.specs.Stories.{handled_by, added_by, done_of, out_of, fired_keys_by, fired_keys}
 use Rattle.plain_answer.proofs.Closing.{same-key, key-itself}
 use Rattle.plain_answer.proofs.Counting.{tie, apart-false}
-use Rattle.plain_answer.proofs.Grading.{IsGraded, legal-graded}
+use Rattle.plain_answer.proofs.Grading.{legal-graded, waits-small}
 use Rattle.plain_answer.proofs.Members.{out_at, out_at-append, added-here, added-other, computation-apart}
-use Rattle.plain_answer.proofs.Passing.{kind-at, record-left, timer-left}
+use Rattle.plain_answer.proofs.Causes.{kind-left, handled-nothing, fired-other}
 use Rattle.plain_answer.proofs.Places.{held_place, held_timer, places-held, place-behind, Climb, AreLow, Climb-held, AreLow-held, timers-held, first-timer, lastly, spikes-push}
 use Rattle.plain_answer.proofs.SpikeSteps.{spike_record_at, spike-nothing, spike-key, fires-first, HoldsMore, holds-more, holds-late, pair_of, pairs_of, placed, placed-push}
 use Rattle.plain_answer.proofs.Stories.{done-push, out-push, along_legal}
@@ -63,10 +61,6 @@ module _ (case : CaseShape) (name : RowName) (last times : ℕ) (runs : IsRunnab
   -- the part is there
   there : name.part < parts_of shape
   there = kind-there shape name.part (kinds.Spike last times) kind
-
-  -- there are at most 48 parts
-  few_parts : parts_of shape ≤ 48
-  few_parts = omega (arith, runs.topology.few_injectors, runs.topology.few_computations)
 
   -- the members of the stream under the row's key
   abbrev own : List Record → List Record
@@ -160,16 +154,6 @@ module _ (case : CaseShape) (name : RowName) (last times : ℕ) (runs : IsRunnab
       (ap not in_time)) in
       omega (arith, due, small)
 
-  -- what waits for the row is below the greatest timestamp
-  small : (h : List Entry) (id : RecordId) (d : Delivery) → IsLegal case h
-      → found_delivery id (run_of shape h).unhandled ≡ Some d → d.to ≡ name
-      → d.item.stamp < MAX_STAMP
-  small h id d legal waits to_row =
-      let graded : d.item.stamp ≤ grade d.to.part = find-each IsGraded (λ (e : Delivery). same_id e.id id) (run_of shape h).unhandled d
-      (legal-graded case h runs legal).waiting waits in
-      let here : d.item.stamp ≤ grade name.part = subst (λ (r : RowName). d.item.stamp ≤ grade r.part) to_row graded in
-      omega (arith, here, there, few_parts)
-
   -- the part is itself
   self : (name.part == name.part) ≡ true
   self = eq-eqb name.part name.part refl
@@ -189,14 +173,11 @@ module _ (case : CaseShape) (name : RowName) (last times : ℕ) (runs : IsRunnab
       d = may.delivery
 
       left : spike_record was.late was.held (lastly last (values was.over)) d.item ≡ effects
-      left = sym (ap (λ st. effects_of (kinds.Spike last times) name.key st (OfRecord d.item)) was.state)
-          ∙ record-left case run name id effects (kinds.Spike last times) may kind
+      left = kind-left case name (row_of shape run name) (OfRecord d.item) effects (kinds.Spike last times)
+          (states.Spike was.late was.held (lastly last (values was.over))) kind was.state may.does
 
       nothing : own (out_at name.part (added_by (run_of shape h) (Handle seq name id effects))) ≡ []
-      nothing = ap own (added-here name.part run entry name refl self
-          ∙ ap (map (produced (late_cause run.made entry)))
-          (sym (ap (λ (o : EffectsView). o.productions) (record-left case run name id effects (kinds.Spike last times) may kind))
-          ∙ spike-nothing last times name.key (row_of shape run name).state d.item))
+      nothing = ap own (handled-nothing case run name.part (kinds.Spike last times) seq name id effects kind (spike-nothing last times) may)
 
       pair : (b : Bool) → d.item.late ≡ b → pairs_of name (handled_by run entry) ≡ cond (not b) ((d.item.stamp, d.item.value) ∷ []) []
       pair b is =
@@ -223,7 +204,8 @@ module _ (case : CaseShape) (name : RowName) (last times : ℕ) (runs : IsRunnab
       by_late false is =
           let more = subst (HoldsMore was.late was.held (lastly last (values was.over)) d.item) left
           (holds-more was.late was.held (lastly last (values was.over)) d.item is) in
-          let low : d.item.stamp < MAX_STAMP = small h id d legal may.waits may.to_row in
+          let low : d.item.stamp < MAX_STAMP =
+          waits-small case run name id d runs (legal-graded case h runs legal) there may.waits may.to_row in
           let place : ℕ × ℤ = (d.item.stamp, d.item.value) in record {
             late = was.late;
             over = was.over;
@@ -281,11 +263,9 @@ module _ (case : CaseShape) (name : RowName) (last times : ℕ) (runs : IsRunnab
       by_held (t ∷ hs) state timers places climb low =
           let is : held_timer t ≡ timer = some_same (held_timer t) timer (sym (ap (λ l. slice_get l 0) timers) ∙ may.least_timer) in
           let of = fires-first last times name.key was.late t hs (values was.over) climb low in
-          let left : effects_of (kinds.Spike last times) name.key
-          (states.Spike was.late (t ∷ hs) (lastly last (values was.over))) (OfTimer (held_timer t)) ≡ effects =
-          ap (effects_of (kinds.Spike last times) name.key (states.Spike was.late (t ∷ hs) (lastly last (values was.over)))) is
-          ∙ sym (ap (λ st. effects_of (kinds.Spike last times) name.key st (OfTimer timer)) state)
-          ∙ timer-left case run name timer mark effects (kinds.Spike last times) may kind in
+          let left = kind-left case name (row_of shape run name) (OfTimer (held_timer t)) effects (kinds.Spike last times)
+          (states.Spike was.late (t ∷ hs) (lastly last (values was.over))) kind state
+          (subst (λ (u : Timer). outcome_of case name (row_of shape run name) (OfTimer u) ≡ Some effects) (sym is) may.does) in
           let left_state : effects.state ≡ states.Spike was.late hs (lastly last (values was.over ++ t.value ∷ [])) =
           sym (ap (λ (o : EffectsView). o.state) left) ∙ of.state in
           let produces : map (produced timer.late) effects.productions ≡ spike_at last times name.key (values was.over) t.stamp t.value =
@@ -367,45 +347,17 @@ module _ (case : CaseShape) (name : RowName) (last times : ℕ) (runs : IsRunnab
       elsewhere h (Handle seq row id effects) legal may was apart
       (ap (λ o. pairs_of name (option_to_list o)) may.waits
       ∙ ap (λ b. map pair_of (cond (b && not may.delivery.item.late) (may.delivery ∷ []) []))
-      (ap (is_at (row_cmp name)) may.to_row ∙ apart-false name row apart)) nothing refl
-    where
-      nothing : own (out_at name.part (added_by (run_of shape h) (Handle seq row id effects))) ≡ []
-      nothing = elim (row.part == name.part) as
-          (λ b. (row.part == name.part) ≡ b → own (out_at name.part (added_by (run_of shape h) (Handle seq row id effects))) ≡ []) [
-            | true ↦ λ e.
-                ap own (added-here name.part (run_of shape h) (Handle seq row id effects) row refl e
-                ∙ ap (map (produced (late_cause (run_of shape h).made (Handle seq row id effects))))
-                (sym (ap (λ (o : EffectsView). o.productions) (record-left case (run_of shape h) row id effects (kinds.Spike last times) may
-                (kind-at shape name.part row.part (kinds.Spike last times) kind e)))
-                ∙ spike-nothing last times row.key (row_of shape (run_of shape h) row).state may.delivery.item))
-            | false ↦ λ e. ap own (added-other name.part (run_of shape h) (Handle seq row id effects) row refl e)
-          ] refl
+      (ap (is_at (row_cmp name)) may.to_row ∙ apart-false name row apart))
+      (ap own (handled-nothing case (run_of shape h) name.part (kinds.Spike last times) seq row id effects kind (spike-nothing last times)
+      may)) refl
   off_row h (Fire seq row timer mark effects) legal may was apart =
-      elsewhere h (Fire seq row timer mark effects) legal may was apart refl nothing silent
+      elsewhere h (Fire seq row timer mark effects) legal may was apart refl
+      (fired-other case (run_of shape h) name.part (kinds.Spike last times) seq row timer mark effects
+      (λ (r : Record). pointwise nat_eq name.key r.key) kind (spike-key last times)
+      (λ same r is. ap (pointwise nat_eq name.key) is ∙ differs same) may) silent
     where
       differs : (row.part == name.part) ≡ true → pointwise nat_eq name.key row.key ≡ false
       differs e = key-differs row e (λ same. apart (ap Some same))
-
-      nothing : own (out_at name.part (added_by (run_of shape h) (Fire seq row timer mark effects))) ≡ []
-      nothing = elim (row.part == name.part) as
-          (λ b. (row.part == name.part) ≡ b → own (out_at name.part (added_by (run_of shape h) (Fire seq row timer mark effects))) ≡ []) [
-            | true ↦ λ e.
-                let left = timer-left case (run_of shape h) row timer mark effects (kinds.Spike last times) may
-                (kind-at shape name.part row.part (kinds.Spike last times) kind e) in
-                ap own (added-here name.part (run_of shape h) (Fire seq row timer mark effects) row refl e)
-                ∙ other-row row.key timer.late effects.productions (differs e)
-                (subst (λ (o : EffectsView). AllByRecursion (λ (p : Production). p.key ≡ row.key) o.productions) left
-                (spike-key last times row.key (row_of shape (run_of shape h) row).state timer))
-            | false ↦ λ e. ap own (added-other name.part (run_of shape h) (Fire seq row timer mark effects) row refl e)
-          ] refl
-        where
-          other-row : (key : List ℕ) (late : Bool) (ps : List Production) → pointwise nat_eq name.key key ≡ false
-              → AllByRecursion (λ (p : Production). p.key ≡ key) ps → own (map (produced late) ps) ≡ []
-          other-row key late [] other each = refl
-          other-row key late (p ∷ ps) other each =
-              ap (λ b. cond b (produced late p ∷ own (map (produced late) ps)) (own (map (produced late) ps)))
-              (ap (pointwise nat_eq name.key) each.0 ∙ other)
-              ∙ other-row key late ps other each.1
 
       silent : filter (pointwise nat_eq name.key) (fired_keys_by name.part (Fire seq row timer mark effects)) ≡ []
       silent = elim (row.part == name.part) as

@@ -1,6 +1,5 @@
 -- Each open window of a row of a count has a timer.
 use Rattle.std.proofs.Common.{◌≡◌, ℕ, ◌==◌, ◌&&◌, ◌||◌, not, Bool, true, false, cond, List, [], ◌∷◌, ◌++◌, filter, fold, Some, inl, inr, refl, sym, ◌∙◌, ap, subst, arith}
-use Rattle.std.specs.Option.{option_map}
 use Rattle.std.specs.List.{AllByRecursion, list_any}
 use Rattle.std.specs.Ordering.{nat_cmp, match_ordering}
 use Rattle.std.specs.declared.cmp.Ordering.TheVariants.{Less, Equal, Greater}
@@ -20,7 +19,7 @@ use Rattle.mw_types.specs.Outcomes.{EffectsView}
 use Rattle.topology.specs.Shapes.{Shape, kind_of}
 use Rattle.row_parts.specs.Contents.{with_timer, without_timer, is_timer, set_again, found_delivery}
 use Rattle.computations.specs.Entering.{entered-recursion}
-use Rattle.computations.specs.Handlers.{one_more, unchanged, outcome_with_timer, counted, count_record, window_end, effects_of, OfRecord}
+use Rattle.computations.specs.Handlers.{one_more, unchanged, outcome_with_timer, counted, count_record, window_end, OfRecord}
 use Rattle.run_history.specs.Cases.{CaseShape}
 use Rattle.run_history.specs.Made.{row_written}
 use Rattle.run_history.specs.Runs.{Run, run_of, row_of, followed, empty_run, with_timers}
@@ -30,6 +29,7 @@ use Rattle.history_laws.proofs.Along.{along_history}
 use Rattle.history_laws.proofs.FeedLaws.{injector-no_kind}
 use Rattle.history_laws.proofs.RowSteps.{on_row_or_not, row_of-here, row_of-elsewhere, both_Equal}
 use Rattle.plain_answer.specs.Deeds.{Deed, took, fired, after_deed, windows_after, taken, deeds_in, Told, told, told_of, deeds_of}
+use Rattle.plain_answer.proofs.Causes.{kind-left}
 use Rattle.plain_answer.proofs.Counting.{IsCounted, step, fresh-counted, tie, deeds-apart}
 
 -- a timer with the tag 0 is set for this time
@@ -181,11 +181,8 @@ module _ (case : CaseShape) (name : RowName) (size : ℕ) (kind : kind_of case.t
       let ts : List Timer = (row_of shape s.run name).timers in
       let item : Record = may.delivery.item in
       let late : ℕ = has.counted.late in
-      let does : effects_of (kinds.Count size) name.key (row_of shape s.run name).state (OfRecord item) ≡ effects =
-      some_same _ effects (sym (ap (option_map (λ k. effects_of k name.key (row_of shape s.run name).state (OfRecord item))) kind)
-      ∙ may.does) in
-      let left : count_record size late ws item ≡ effects =
-      sym (ap (λ st. effects_of (kinds.Count size) name.key st (OfRecord item)) has.counted.is) ∙ does in
+      let left : count_record size late ws item ≡ effects = kind-left case name (row_of shape s.run name) (OfRecord item) effects
+      (kinds.Count size) (states.Count late ws) kind has.counted.is may.does in
       let here : (row_of shape (followed shape s.run entry) name).timers ≡ with_timers effects.timers ts =
       ap (λ c. c.timers) (row_of-here shape s.run entry name refl) in
       let takes : deeds_in name s.run entry ≡ took item.stamp item.late ∷ [] =

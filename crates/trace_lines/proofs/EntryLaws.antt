@@ -1,21 +1,19 @@
 -- Each entry of a lawful history is within the bounds of its types.
-use Rattle.std.proofs.Common.{◌≡◌, ℕ, ◌+◌, ◌<◌, ◌≤◌, ◌^◌, Bool, true, cond, List, [], ◌∷◌, ◌++◌, length, length-append, map, refl, sym, ap, ◌∙◌, subst, arith, append_assoc}
-use Rattle.std.specs.Prelude.{Option, Some, None, IsSome, IfSome, slice_get}
+use Rattle.std.proofs.Common.{◌≡◌, ℕ, ◌+◌, ◌<◌, ◌≤◌, ◌^◌, true, cond, List, [], ◌∷◌, ◌++◌, length, length-append, map, refl, sym, ap, ◌∙◌, subst, arith, append_assoc}
+use Rattle.std.specs.Prelude.{⊤, All, Option, Some, None, IsSome, IfSome, slice_get}
 use Rattle.std.specs.Option.{option_map_or, option_and_then}
 use Rattle.std.specs.List.{AllByRecursion, flat_map}
 use Rattle.std.specs.Map.{lookup}
 use Rattle.std.specs.BTreeMap.{insert_entry, is_at}
 use Rattle.std.specs.Cmp.{tied_itself}
 use Rattle.std.specs.Ordering.{is_eq}
-use Rattle.std.proofs.lemmas.List.Elements.{recursion_from_All, All-from_recursion}
+use Rattle.std.proofs.lemmas.List.Elements.{recursion_from_All, All-from_recursion, All-weaker}
 use Rattle.std.proofs.lemmas.Option.{slice_get_within}
 use Rattle.mw_types.specs.declared.TheConstants.{MAX_STAMP}
-use Rattle.mw_types.specs.declared.identity.RecordId.{RecordId}
 use Rattle.mw_types.specs.declared.identity.RowName.{RowName}
 use Rattle.mw_types.specs.declared.record.Record.{Record}
 use Rattle.mw_types.specs.declared.record.Production.{Production}
 use Rattle.mw_types.specs.declared.timer.Timer.{Timer}
-use Rattle.mw_types.specs.declared.kind.Kind.{Kind}
 use Rattle.mw_types.specs.declared.state.State.{State}
 use Rattle.mw_types.specs.declared.state.State.TheVariants as states
 use Rattle.mw_types.specs.declared.state.HeldTotal.{HeldTotal}
@@ -26,34 +24,34 @@ use Rattle.mw_types.specs.Bounds.{IsWithin, IsKey}
 use Rattle.mw_types.specs.Orders.{row_cmp}
 use Rattle.mw_types.specs.Outcomes.{EffectsView}
 use Rattle.mw_types.proofs.OrderLaws.{row_cmp-total}
-use Rattle.topology.specs.Shapes.{Shape, kind_of, parts_of}
-use Rattle.computations.specs.Handlers.{effects_of, OfRecord, OfTimer}
-use Rattle.row_parts.specs.Contents.{Contents, cursor_in, same_id}
+use Rattle.topology.specs.Shapes.{Shape, parts_of}
+use Rattle.computations.specs.Handlers.{Cause, OfTimer}
+use Rattle.computations.specs.Leaving.{Fits, HasValues, HasKey, IsTimerAfter, IsProductionAfter}
+use Rattle.row_parts.specs.Contents.{Contents, cursor_in}
 use Rattle.row_parts.specs.Spelling.{FitsBytes}
 use Rattle.run_history.specs.Cases.{CaseShape, source_of}
 use Rattle.run_history.specs.Fences.{IsUnderLastClaim, interval_of, last_claim, sequencer_of}
 use Rattle.run_history.specs.Inputs.{IsRunnable}
 use Rattle.run_history.specs.Legal.{IsLegal, MayFollow, floor_of}
-use Rattle.run_history.specs.Made.{row_written}
+use Rattle.run_history.specs.Made.{row_written, deliveries_of}
 use Rattle.run_history.specs.Printing.{IsOnPart}
 use Rattle.run_history.specs.Runs.{Run, empty_run, followed, row_in, row_of, run_of}
 use Rattle.run_history.proofs.Claims.{last_claim-within}
 use Rattle.run_history.proofs.Lookups.{lookup-insert_entry}
 use Rattle.run_history.proofs.RunLaws.{IsLegal-push, next-length, run_of-push}
-use Rattle.list_lemmas.proofs.Lists.{each-both, each-filter, each-weaker, find-each, none_some}
+use Rattle.list_lemmas.proofs.Lists.{each-all, each-both, each-filter, none_some}
 use Rattle.list_lemmas.proofs.Places.{each-at, each-behind}
 use Rattle.history_laws.specs.Ids.{is_left}
 use Rattle.history_laws.specs.Keys.{AreKeyed}
 use Rattle.history_laws.specs.Writes.{IsLegalAndFenced}
 use Rattle.history_laws.proofs.Along.{AreLegal-apart}
-use Rattle.history_laws.proofs.HandlerBounds.{IsAfter, IsTimerAfter, IsProductionAfter}
+use Rattle.history_laws.proofs.Caused.{IsCaused, of_standing, caused-handle, caused-fire}
 use Rattle.history_laws.proofs.IdLaws.{legal-tells}
-use Rattle.history_laws.proofs.KeyLaws.{legal-keys, record-keys, timer-keys}
+use Rattle.history_laws.proofs.KeyLaws.{legal-keys}
 use Rattle.history_laws.proofs.LowLaws.{low_under-end}
-use Rattle.history_laws.proofs.PendingLaws.{was_some}
 use Rattle.history_laws.proofs.PrintLaws.{legal-on_parts}
 use Rattle.history_laws.proofs.RowSteps.{made_row, row_of-here}
-use Rattle.history_laws.proofs.StampLaws.{fire-after, fire-in_time, handle-after, injected-in_time, legal-in_time, source_of-source}
+use Rattle.history_laws.proofs.StampLaws.{caused-in_time, caused-timers, caused-productions, injected-in_time, legal-in_time, source_of-source}
 use Rattle.history_laws.proofs.StateLaws.{legal-bounded}
 use Rattle.history_laws.proofs.FloorLaws.{fold_min-bound}
 use Rattle.trace_lines.specs.Entries.{IsRowName, IsRecord, IsProduction, IsOutcome, IsEntry}
@@ -62,7 +60,7 @@ use Rattle.trace_lines.specs.Lines.{text_of_entry}
 use Rattle.trace_lines.specs.Values.{AreValued}
 use Rattle.trace_lines.proofs.Choosing.{choice_at-entry}
 use Rattle.trace_lines.proofs.IdBounds.{pending-id, waiting-id}
-use Rattle.trace_lines.proofs.ValueLaws.{Fits, HasValues, LeavesValues, fire-leaves, handle-leaves, injected-each, legal-values, row_of-values}
+use Rattle.trace_lines.proofs.ValueLaws.{caused-value, injected-each, legal-values, row_of-values}
 
 -- ---- what is fixed by the history alone
 
@@ -145,69 +143,59 @@ values-fit (states.Spike late held known) has =
     (All-from_recursion (λ (h : HeldTotal). Fits h.value) held has.0, All-from_recursion Fits known has.1)
 values-fit (states.Pass late) has = tt
 
--- what was said of a handler's outcome, together
-outcome-of : (effects : EffectsView) (stamp : ℕ) (late : Bool) → IsWithin effects.state → IsAfter stamp late effects
-    → LeavesValues effects → AllByRecursion (λ (p : Production). IsKey p.key) effects.productions → IsOutcome effects
-outcome-of effects stamp late within after leaves keys = record {
-  kept = record {
-    state_within = within;
-    times = All-from_recursion (λ (t : Timer). t.time ≤ MAX_STAMP) effects.timers (each-weaker (IsTimerAfter stamp late)
-        (λ (t : Timer). t.time ≤ MAX_STAMP) (λ t (is : IsTimerAfter stamp late t). is.in_time) effects.timers after.timers);
-    stamps = All-from_recursion (λ (p : Production). p.stamp ≤ MAX_STAMP) effects.productions (each-weaker (IsProductionAfter stamp)
-        (λ (p : Production). p.stamp ≤ MAX_STAMP) (λ p (is : IsProductionAfter stamp p). is.in_time) effects.productions after.productions);
-  };
-  state = values-fit effects.state leaves.state;
-  tags = All-from_recursion (λ (t : Timer). t.tag < 2 ^ 64) effects.timers leaves.tags;
-  productions = All-from_recursion IsProduction effects.productions
-      (each-weaker (λ (p : Production). IsKey p.key × Fits p.value) IsProduction
-      (λ p (is : IsKey p.key × Fits p.value). record { key = is.0; value = is.1 }) effects.productions
-      (each-both (λ (p : Production). IsKey p.key) (λ (p : Production). Fits p.value) effects.productions keys leaves.values));
-}
-
--- the outcome of a record that waited
-handle-outcome : (case : CaseShape) (history : List Entry) (seq : ℕ) (row : RowName) (id : RecordId) (effects : EffectsView)
-    → IsNext case history (Handle seq row id effects) → IsOutcome effects
-handle-outcome case history seq row id effects next =
+-- the key of a cause is one
+caused-key : (case : CaseShape) (history : List Entry) (entry : Entry) (name : RowName) (cause : Cause) (effects : EffectsView)
+    → IsNext case history entry → IsCaused case (run_of case.topology history) entry name cause effects → HasKey cause
+caused-key case history entry name cause effects next caused =
     let run = run_of case.topology history in
-    let may = next.may in
-    let state = (row_of case.topology run row).state in
-    let kind = was_some (λ (kind : Kind). effects_of kind row.key state (OfRecord may.delivery.item))
-    (kind_of case.topology row.part) effects may.does in
     let waiting = subst (AllByRecursion (λ (d : Delivery). IsKey d.item.key)) (sym (legal-tells case history next.legal).waiting)
     (each-filter (λ (d : Delivery). IsKey d.item.key) (is_left history) run.made
     (recursion_from_All (λ (d : Delivery). IsKey d.item.key) run.made
     (legal-keys case history next.keyed next.legal).records)) in
-    let key = find-each (λ (d : Delivery). IsKey d.item.key) (λ (d : Delivery). same_id d.id id) run.unhandled may.delivery
-    waiting may.waits in
-    outcome-of effects may.delivery.item.stamp may.delivery.item.late
-    (left-within case history (Handle seq row id effects) row next refl)
-    (handle-after case run seq row id effects next.runs (legal-in_time case history next.runs next.legal) may)
-    (handle-leaves case run seq row id effects (legal-values case history next.valued next.legal) may)
-    (subst (λ (e : EffectsView). AllByRecursion (λ (p : Production). IsKey p.key) e.productions) kind.2
-    (record-keys kind.0 row.key state may.delivery.item key))
+    of_standing case run name cause (λ (d : Delivery). IsKey d.item.key) (λ (t : Timer). ⊤) HasKey waiting
+    (each-all (λ (t : Timer). ⊤) (λ t. tt) (row_of case.topology run name).timers) (λ d to is. is) (λ t is. tt) caused.stands
 
--- and of a timer that fires
-fire-outcome : (case : CaseShape) (history : List Entry) (seq : ℕ) (row : RowName) (timer : Timer) (mark : ℕ) (effects : EffectsView)
-    → IsNext case history (Fire seq row timer mark effects) → IsOutcome effects
-fire-outcome case history seq row timer mark effects next =
+-- what each element of a list is, as a weaker fact of each
+each-as : {X : Type 0} (P Q : X → Type 0) → ((x : X) → P x → Q x) → (xs : List X) → AllByRecursion P xs → All Q xs
+each-as P Q weaker xs each = All-weaker P Q weaker xs (All-from_recursion P xs each)
+
+-- what a cause leaves is within the bounds of an outcome
+caused-outcome : (case : CaseShape) (history : List Entry) (entry : Entry) (name : RowName) (cause : Cause) (effects : EffectsView)
+    → IsNext case history entry → IsCaused case (run_of case.topology history) entry name cause effects → IsOutcome effects
+caused-outcome case history entry name cause effects next caused =
     let run = run_of case.topology history in
-    let may = next.may in
-    let state = (row_of case.topology run row).state in
-    let kind = was_some (λ (kind : Kind). effects_of kind row.key state (OfTimer timer)) (kind_of case.topology row.part) effects may.does in
-    let name = written-name case history (Fire seq row timer mark effects) row next refl in
-    outcome-of effects timer.time timer.late
-    (left-within case history (Fire seq row timer mark effects) row next refl)
-    (fire-after case run seq row timer mark effects (legal-in_time case history next.runs next.legal) may)
-    (fire-leaves case run seq row timer mark effects (legal-values case history next.valued next.legal) may)
-    (subst (λ (e : EffectsView). AllByRecursion (λ (p : Production). IsKey p.key) e.productions) kind.2
-    (timer-keys kind.0 row.key state timer name.key))
+    let leaves = caused.outcome.leaves in
+    let in_time = legal-in_time case history next.runs next.legal in
+    let values = legal-values case history next.valued next.legal in
+    let has = (row_of-values case run name values).0 in
+    let value = caused-value case run entry name cause effects caused values in
+    let row_key = (written-name case history entry name next caused.written).key in
+    let key = caused-key case history entry name cause effects next caused in record {
+      kept = record {
+        state_within = subst IsWithin (caused.left (deliveries_of case.topology run.made run.next entry) (row_of case.topology run name))
+            (left-within case history entry name next caused.written);
+        times = each-as (IsTimerAfter cause) (λ (t : Timer). t.time ≤ MAX_STAMP) (λ t (is : IsTimerAfter cause t). is.in_time) effects.timers
+            (caused-timers case run entry name cause effects in_time caused next.runs);
+        stamps = each-as (IsProductionAfter cause) (λ (p : Production). p.stamp ≤ MAX_STAMP)
+            (λ p (is : IsProductionAfter cause p). is.in_time) effects.productions
+            (caused-productions case run entry name cause effects in_time caused next.runs);
+      };
+      state = values-fit effects.state (leaves.left.values has value);
+      tags = All-from_recursion (λ (t : Timer). t.tag < 2 ^ 64) effects.timers leaves.timers.tags;
+      productions = each-as (λ (p : Production). IsKey p.key × Fits p.value) IsProduction
+          (λ p (is : IsKey p.key × Fits p.value). record { key = is.0; value = is.1 }) effects.productions
+          (each-both (λ (p : Production). IsKey p.key) (λ (p : Production). Fits p.value) effects.productions
+          (leaves.productions.keys row_key key) (leaves.productions.values has value));
+    }
 
 -- a timer that fires has numbers of 64 bits
 fire-timer : (case : CaseShape) (history : List Entry) (seq : ℕ) (row : RowName) (timer : Timer) (mark : ℕ) (effects : EffectsView)
     → IsNext case history (Fire seq row timer mark effects) → (timer.tag < 2 ^ 64) × (timer.time < 2 ^ 64)
 fire-timer case history seq row timer mark effects next =
     let run = run_of case.topology history in
-    let in_time = fire-in_time case run seq row timer mark effects (legal-in_time case history next.runs next.legal) next.may in (
+    let in_time : timer.time ≤ MAX_STAMP = caused-in_time case run _ row (OfTimer timer) effects
+    (legal-in_time case history next.runs next.legal)
+    (caused-fire case run seq row timer mark effects row next.may refl) in (
       each-at (λ (t : Timer). t.tag < 2 ^ 64) (row_of case.topology run row).timers 0 timer
           (row_of-values case run row (legal-values case history next.valued next.legal)).1 next.may.least_timer,
       omega (arith, in_time),
@@ -269,7 +257,8 @@ IsEntry-next case history (Handle seq row id effects) next =
       seq-small case history entry row seq next refl refl,
       written-name case history entry row next refl,
       waiting-id case history id next.may.delivery next.runs next.legal (omega (arith, short)) next.may.waits,
-      handle-outcome case history seq row id effects next,
+      caused-outcome case history entry row _ effects next
+          (caused-handle case (run_of case.topology history) seq row id effects row next.may refl),
     )
 IsEntry-next case history (Fire seq row timer mark effects) next =
     let entry = Fire seq row timer mark effects in
@@ -280,7 +269,7 @@ IsEntry-next case history (Fire seq row timer mark effects) next =
       written-name case history entry row next refl,
       fire-timer case history seq row timer mark effects next,
       omega (arith, under, low),
-      fire-outcome case history seq row timer mark effects next,
+      caused-outcome case history entry row _ effects next (caused-fire case run seq row timer mark effects row next.may refl),
     )
 IsEntry-next case history (Ack seq row id) next =
     let entry = Ack seq row id in

@@ -1,13 +1,14 @@
 use Rattle.std.proofs.Common.{◌≤◌, List, ap, length, subst, sym, ◌∙◌}
 use Rattle.mw_types.specs.declared.record.Production.{Production}
 use Rattle.mw_types.specs.Outcomes.{EffectsView}
-use Rattle.book.proofs.ProposalLaws.{handling-suits}
+use Rattle.computations.specs.Handlers.{OfRecord}
+use Rattle.history_laws.proofs.Caused.{IsOutcome-does}
 use Rattle.book.proofs.changes.handled.Goals as goal
 
 -- a handler produces few records
 pub sending-requires-clause-few : goal.sending-requires-clause-few
 sending-requires-clause-few c =
-    let suits = handling-suits c.args.case.now c.args.commit c.args.name.now c.args.row.now c.args.delivery.now c.args.effects.now c.requires.fit
-    c.requires.handling in
+    let outcome = IsOutcome-does c.args.case.now c.args.name.now c.args.row.now (OfRecord c.args.delivery.now.item) c.args.effects.now
+    c.requires.handling.does in
     subst (λ (l : List Production). length l ≤ 8) (sym
-    (c.as_slice-2.ensures.elements ∙ ap (λ (o : EffectsView). o.productions) c.effects.view_is)) suits.1.1.1
+    (c.as_slice-2.ensures.elements ∙ ap (λ (o : EffectsView). o.productions) c.effects.view_is)) outcome.leaves.productions.few
