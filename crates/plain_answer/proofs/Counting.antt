@@ -19,7 +19,7 @@ use Rattle.mw_types.specs.Outcomes.{EffectsView}
 use Rattle.mw_types.proofs.OrderLaws.{row_cmp-total}
 use Rattle.topology.specs.Shapes.{Shape, kind_of}
 use Rattle.computations.specs.Handlers.{fresh_state, one_more, unchanged, outcome_with_timer, counted, count_record, count_timer, window_due, window_end, OfRecord, OfTimer}
-use Rattle.computations.specs.HandlerLaws.{find-passes}
+use Rattle.computations.specs.LeavingLaws.{find-number}
 use Rattle.row_parts.specs.Contents.{found_delivery}
 use Rattle.run_history.specs.Cases.{CaseShape}
 use Rattle.run_history.specs.Made.{row_written}
@@ -74,7 +74,7 @@ timer-state size key late ws timer =
     (λ b. (count_timer key late ws (cond b (find (λ (w : Window). w.end == timer.time) ws) None)).state
     ≡ states.Count late (fold (after_deed size) ws (cond b (fired timer.time ∷ []) []))) [
       | true ↦ closed-state key late timer.time ws (find (λ (w : Window). w.end == timer.time) ws) refl
-          (find-passes (λ (w : Window). w.end) timer.time ws)
+          (find-number (λ (w : Window). w.end) timer.time ws)
       | false ↦ refl
     ]
 

@@ -1,6 +1,7 @@
 -- A count fires a timer for each record that it puts into its stream.
 use Rattle.std.proofs.Common.{◌≡◌, ℕ, ◌==◌, Bool, true, false, cond, List, [], length, map, find, Option, Some, None, refl, sym, ◌∙◌, ap, arith, length-append}
 use Rattle.mw_types.specs.declared.kind.Kind.TheVariants as kinds
+use Rattle.mw_types.specs.declared.state.State.TheVariants as states
 use Rattle.mw_types.specs.declared.state.Window.{Window}
 use Rattle.mw_types.specs.declared.entry.Entry.{Entry}
 use Rattle.mw_types.specs.declared.entry.Entry.TheVariants.{Inject, Handle, Fire, Ack}

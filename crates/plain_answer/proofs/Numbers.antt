@@ -118,9 +118,11 @@ done-placed case = along_legal case (λ h. AllByRecursion (IsPlaced case.topolog
     new : (run : Run) (entry : Entry) → MayFollow case run entry → AllByRecursion (IsPlaced case.topology) (handled_by run entry)
     new run (Handle seq row id effects) may =
         let outcome = (caused-handle case run seq row id effects row may refl).outcome in
-        subst (λ o. AllByRecursion (IsPlaced case.topology) (option_to_list o)) (sym may.waits)
-        (kind-placed case.topology may.delivery.to.part outcome.kind
-        (ap (λ (r : RowName). kind_of case.topology r.part) may.to_row ∙ outcome.of_part), tt)
+        subst (λ o. AllByRecursion (IsPlaced case.topology) (option_to_list o)) (sym may.waits) (
+          kind-placed case.topology may.delivery.to.part outcome.kind
+              (ap (λ (r : RowName). kind_of case.topology r.part) may.to_row ∙ outcome.of_part),
+          tt,
+        )
     new run _ may = tt
 
 -- ---- timers that fire

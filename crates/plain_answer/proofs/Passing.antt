@@ -4,6 +4,7 @@ use Rattle.std.specs.Prelude.{option_to_list, slice_get}
 use Rattle.std.proofs.lemmas.List.Elements.{filter-append}
 use Rattle.mw_types.specs.declared.identity.RowName.{RowName}
 use Rattle.mw_types.specs.declared.record.Record.{Record}
+use Rattle.mw_types.specs.declared.timer.Timer.{Timer}
 use Rattle.mw_types.specs.declared.kind.Kind.TheVariants as kinds
 use Rattle.mw_types.specs.declared.state.State.{State}
 use Rattle.mw_types.specs.declared.state.State.TheVariants as states
@@ -56,6 +57,11 @@ pass-timers : (key : List ℕ) (state : State) (item : Record) → (effects_of k
 pass-timers key (states.Pass late) item = refl
 pass-timers key state item = refl
 
+-- and produces nothing of one
+pass-nothing : (key : List ℕ) (state : State) (timer : Timer) → (effects_of kinds.Pass key state (OfTimer timer)).productions ≡ []
+pass-nothing key (states.Pass late) timer = refl
+pass-nothing key state timer = refl
+
 module _ (case : CaseShape) (part : ℕ) (kind : kind_of case.topology part ≡ Some kinds.Pass) where
   abbrev shape : Shape
   shape = case.topology
@@ -99,7 +105,8 @@ module _ (case : CaseShape) (part : ℕ) (kind : kind_of case.topology part ≡ 
             let of = kind-at shape part row.part kinds.Pass kind e in
             let left = kind-left case row (row_of shape run row) (OfTimer timer) effects kinds.Pass _ of refl may.does in
             added-here part run entry row refl e
-            ∙ ap (λ (o : EffectsView). map (produced timer.late) o.productions) (sym left)
+            ∙ ap (map (produced timer.late)) (sym (ap (λ (o : EffectsView). o.productions) left)
+            ∙ pass-nothing row.key (row_of shape run row).state timer)
         | false ↦ λ e. added-other part run entry row refl e
       ] refl
   adds h (Ack seq row id) legal may = added-none (Ack seq row id) refl
