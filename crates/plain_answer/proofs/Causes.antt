@@ -30,7 +30,8 @@ pub kind-at : (shape : Shape) (part own : ℕ) (kind : Kind) → kind_of shape p
 kind-at shape part own kind of e = let same : own ≡ part = grind (arith, nat_tests) in ap (kind_of shape) same ∙ of
 
 -- what a handler of this kind left of a cause, in a row with this state
-pub kind-left : (case : CaseShape) (name : RowName) (row : Contents) (cause : Cause) (effects : EffectsView) (kind : Kind) (state : State)
+pub kind-left : (case : CaseShape) (name : RowName) (row : Contents) (cause : Cause) (effects : EffectsView)
+    (kind : Kind) (state : State)
     → kind_of case.topology name.part ≡ Some kind → row.state ≡ state → outcome_of case name row cause ≡ Some effects
     → effects_of kind name.key state cause ≡ effects
 kind-left case name row cause effects kind state of is does = some_same _ effects
@@ -55,7 +56,8 @@ handled-nothing case run part kind seq row id effects of nothing may =
     ] refl
 
 -- of records under one key none passes a test that none under this key passes
-other-key : (test : Record → Bool) (key : List ℕ) (late : Bool) (ps : List Production) → ((r : Record) → r.key ≡ key → test r ≡ false)
+other-key : (test : Record → Bool) (key : List ℕ) (late : Bool) (ps : List Production)
+    → ((r : Record) → r.key ≡ key → test r ≡ false)
     → AllByRecursion (λ (p : Production). p.key ≡ key) ps → filter test (map (produced late) ps) ≡ []
 other-key test key late [] other each = refl
 other-key test key late (p ∷ ps) other each =
@@ -64,11 +66,13 @@ other-key test key late (p ∷ ps) other each =
     ∙ other-key test key late ps other each.1
 
 -- a part whose kind produces under its row's key alone adds nothing that a test of other keys passes
-pub fired-other : (case : CaseShape) (run : Run) (part : ℕ) (kind : Kind) (seq : ℕ) (row : RowName) (timer : Timer) (mark : ℕ)
+pub fired-other : (case : CaseShape) (run : Run) (part : ℕ) (kind : Kind) (seq : ℕ) (row : RowName) (timer : Timer)
+    (mark : ℕ)
     (effects : EffectsView) (test : Record → Bool) → kind_of case.topology part ≡ Some kind
     → ((key : List ℕ) (state : State) (timer : Timer)
     → AllByRecursion (λ (p : Production). p.key ≡ key) (effects_of kind key state (OfTimer timer)).productions)
-    → ((row.part == part) ≡ true → (r : Record) → r.key ≡ row.key → test r ≡ false) → MayFire case run row timer mark effects
+    → ((row.part == part) ≡ true → (r : Record) → r.key ≡ row.key → test r ≡ false)
+    → MayFire case run row timer mark effects
     → filter test (out_at part (added_by run (Fire seq row timer mark effects))) ≡ []
 fired-other case run part kind seq row timer mark effects test of keyed other may =
     let entry : Entry = Fire seq row timer mark effects in

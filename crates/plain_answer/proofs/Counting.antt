@@ -130,7 +130,8 @@ module _ (case : CaseShape) (name : RowName) (size : ℕ) (kind : kind_of case.t
       let entry : Entry = Handle seq name id effects in
       let ws : List Window = windows_after size s.deeds in
       let item : Record = may.delivery.item in
-      let left : count_record size has.late ws item ≡ effects = kind-left case name (row_of shape s.run name) (OfRecord item) effects
+      let left : count_record size has.late ws item ≡ effects =
+      kind-left case name (row_of shape s.run name) (OfRecord item) effects
       (kinds.Count size) (states.Count has.late ws) kind has.is may.does in
       let state = record-state size has.late ws item in
       let here : (row_of shape (followed shape s.run entry) name).state ≡ effects.state =
@@ -145,7 +146,8 @@ module _ (case : CaseShape) (name : RowName) (size : ℕ) (kind : kind_of case.t
   fires s seq timer mark effects has may =
       let entry : Entry = Fire seq name timer mark effects in
       let ws : List Window = windows_after size s.deeds in
-      let left : count_timer name.key has.late ws (window_due ws timer) ≡ effects = kind-left case name (row_of shape s.run name)
+      let left : count_timer name.key has.late ws (window_due ws timer) ≡ effects =
+      kind-left case name (row_of shape s.run name)
       (OfTimer timer) effects (kinds.Count size) (states.Count has.late ws) kind has.is may.does in
       let here : (row_of shape (followed shape s.run entry) name).state ≡ effects.state =
       ap (λ c. c.state) (row_of-here shape s.run entry name refl) in

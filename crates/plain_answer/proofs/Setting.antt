@@ -164,7 +164,8 @@ module _ (case : CaseShape) (name : RowName) (size : ℕ) (kind : kind_of case.t
       let ts : List Timer = (row_of shape run name).timers in
       let item : Record = may.delivery.item in
       let counts = count-windows case name size kind h legal in
-      let left : count_record size counts.0 ws item ≡ effects = kind-left case name (row_of shape run name) (OfRecord item) effects
+      let left : count_record size counts.0 ws item ≡ effects =
+      kind-left case name (row_of shape run name) (OfRecord item) effects
       (kinds.Count size) (states.Count counts.0 ws) kind counts.1 may.does in
       let takes : deeds_in name run entry ≡ took item.stamp item.late ∷ [] =
       ap (λ b. cond b (taken (found_delivery id run.unhandled)) []) (tie name) ∙ ap taken may.waits in

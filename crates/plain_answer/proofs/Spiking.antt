@@ -177,7 +177,8 @@ module _ (case : CaseShape) (name : RowName) (last times : ℕ) (runs : IsRunnab
           (states.Spike was.late was.held (lastly last (values was.over))) kind was.state may.does
 
       nothing : own (out_at name.part (added_by (run_of shape h) (Handle seq name id effects))) ≡ []
-      nothing = ap own (handled-nothing case run name.part (kinds.Spike last times) seq name id effects kind (spike-nothing last times) may)
+      nothing = ap own (handled-nothing case run name.part (kinds.Spike last times) seq name id effects kind
+          (spike-nothing last times) may)
 
       pair : (b : Bool) → d.item.late ≡ b → pairs_of name (handled_by run entry) ≡ cond (not b) ((d.item.stamp, d.item.value) ∷ []) []
       pair b is =
@@ -263,9 +264,11 @@ module _ (case : CaseShape) (name : RowName) (last times : ℕ) (runs : IsRunnab
       by_held (t ∷ hs) state timers places climb low =
           let is : held_timer t ≡ timer = some_same (held_timer t) timer (sym (ap (λ l. slice_get l 0) timers) ∙ may.least_timer) in
           let of = fires-first last times name.key was.late t hs (values was.over) climb low in
-          let left = kind-left case name (row_of shape run name) (OfTimer (held_timer t)) effects (kinds.Spike last times)
+          let left = kind-left case name (row_of shape run name) (OfTimer (held_timer t)) effects
+          (kinds.Spike last times)
           (states.Spike was.late (t ∷ hs) (lastly last (values was.over))) kind state
-          (subst (λ (u : Timer). outcome_of case name (row_of shape run name) (OfTimer u) ≡ Some effects) (sym is) may.does) in
+          (subst (λ (u : Timer). outcome_of case name (row_of shape run name) (OfTimer u) ≡ Some effects) (sym is)
+          may.does) in
           let left_state : effects.state ≡ states.Spike was.late hs (lastly last (values was.over ++ t.value ∷ [])) =
           sym (ap (λ (o : EffectsView). o.state) left) ∙ of.state in
           let produces : map (produced timer.late) effects.productions ≡ spike_at last times name.key (values was.over) t.stamp t.value =
@@ -348,7 +351,8 @@ module _ (case : CaseShape) (name : RowName) (last times : ℕ) (runs : IsRunnab
       (ap (λ o. pairs_of name (option_to_list o)) may.waits
       ∙ ap (λ b. map pair_of (cond (b && not may.delivery.item.late) (may.delivery ∷ []) []))
       (ap (is_at (row_cmp name)) may.to_row ∙ apart-false name row apart))
-      (ap own (handled-nothing case (run_of shape h) name.part (kinds.Spike last times) seq row id effects kind (spike-nothing last times)
+      (ap own (handled-nothing case (run_of shape h) name.part (kinds.Spike last times) seq row id effects kind
+      (spike-nothing last times)
       may)) refl
   off_row h (Fire seq row timer mark effects) legal may was apart =
       elsewhere h (Fire seq row timer mark effects) legal may was apart refl

@@ -181,7 +181,8 @@ module _ (case : CaseShape) (name : RowName) (size : ℕ) (kind : kind_of case.t
       let ts : List Timer = (row_of shape s.run name).timers in
       let item : Record = may.delivery.item in
       let late : ℕ = has.counted.late in
-      let left : count_record size late ws item ≡ effects = kind-left case name (row_of shape s.run name) (OfRecord item) effects
+      let left : count_record size late ws item ≡ effects =
+      kind-left case name (row_of shape s.run name) (OfRecord item) effects
       (kinds.Count size) (states.Count late ws) kind has.counted.is may.does in
       let here : (row_of shape (followed shape s.run entry) name).timers ≡ with_timers effects.timers ts =
       ap (λ c. c.timers) (row_of-here shape s.run entry name refl) in

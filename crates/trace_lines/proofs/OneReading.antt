@@ -47,12 +47,14 @@ inject_of case part line seq = option_map (Inject seq part line) (option_map rec
 -- what handles a record in a row
 abbrev handle_of : CaseShape → List Entry → RecordId → Record → RowName → Option Entry
 handle_of case history id item row = option_and_then (λ seq. option_map (Handle seq row id)
-    (outcome_of case row (row_of case.topology (run_of case.topology history) row) (OfRecord item))) (seq_of case history row)
+    (outcome_of case row (row_of case.topology (run_of case.topology history) row) (OfRecord item)))
+    (seq_of case history row)
 
 -- what fires a timer of a row
 abbrev fire_of : CaseShape → List Entry → RowName → ℕ → Timer → Option Entry
 fire_of case history row mark timer = option_and_then (λ seq. option_map (Fire seq row timer mark)
-    (outcome_of case row (row_of case.topology (run_of case.topology history) row) (OfTimer timer))) (seq_of case history row)
+    (outcome_of case row (row_of case.topology (run_of case.topology history) row) (OfTimer timer)))
+    (seq_of case history row)
 
 -- the entry that a choice makes
 abbrev entry_for : CaseShape → List Entry → Choice → Option Entry
@@ -81,7 +83,8 @@ entry_for-own case history (Handle seq row id effects) may under =
     ap (option_and_then (λ (d : Delivery). handle_of case history id d.item d.to)) may.waits
     ∙ ap (handle_of case history id may.delivery.item) may.to_row
     ∙ ap (option_and_then (λ s. option_map (Handle s row id)
-    (outcome_of case row (row_of case.topology (run_of case.topology history) row) (OfRecord may.delivery.item)))) (under row refl)
+    (outcome_of case row (row_of case.topology (run_of case.topology history) row) (OfRecord may.delivery.item))))
+    (under row refl)
     ∙ ap (option_map (Handle seq row id)) may.does
 entry_for-own case history (Fire seq row timer mark effects) may under =
     ap (option_and_then (fire_of case history row mark)) may.least_timer
