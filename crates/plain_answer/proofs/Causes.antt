@@ -99,18 +99,21 @@ pub by_entry : (case : CaseShape) (run : Run) (name : RowName) (kind : Kind) (P 
     → ((seq : ℕ) (id : RecordId) → MayAcknowledge case run name id → P (Ack seq name id))
     → ((seq floor : ℕ) → MayPurge case run name floor → P (Purge seq name floor))
     → (entry : Entry) → MayFollow case run entry → row_written entry ≡ Some name → P entry
-by_entry case run name kind P of handles fires acks purges (Claim worker interval) may here = absurd (none_some name here)
+by_entry case run name kind P of handles fires acks purges (Claim worker interval) may here =
+    absurd (none_some name here)
 by_entry case run name kind P of handles fires acks purges (Inject seq part line item) may here =
     absurd (injector-no_kind case.topology part kind may.injector
     (ap (λ (r : RowName). kind_of case.topology r.part) (some_same _ name here) ∙ of))
 by_entry case run name kind P of handles fires acks purges (Handle seq row id effects) may here =
-    subst (λ (r : RowName). MayHandle case run r id effects → P (Handle seq r id effects)) (sym (some_same row name here))
+    subst (λ (r : RowName). MayHandle case run r id effects → P (Handle seq r id effects))
+    (sym (some_same row name here))
     (handles seq id effects) may
 by_entry case run name kind P of handles fires acks purges (Fire seq row timer mark effects) may here =
     subst (λ (r : RowName). MayFire case run r timer mark effects → P (Fire seq r timer mark effects))
     (sym (some_same row name here)) (fires seq timer mark effects) may
 by_entry case run name kind P of handles fires acks purges (Ack seq row id) may here =
-    subst (λ (r : RowName). MayAcknowledge case run r id → P (Ack seq r id)) (sym (some_same row name here)) (acks seq id) may
+    subst (λ (r : RowName). MayAcknowledge case run r id → P (Ack seq r id)) (sym (some_same row name here))
+    (acks seq id) may
 by_entry case run name kind P of handles fires acks purges (Purge seq row floor) may here =
     subst (λ (r : RowName). MayPurge case run r floor → P (Purge seq r floor)) (sym (some_same row name here))
     (purges seq floor) may

@@ -158,7 +158,8 @@ module _ (case : CaseShape) (name : RowName) (size : ℕ) (kind : kind_of case.t
   pub step : (s : Told) (entry : Entry) → IsCounted s → MayFollow case s.run entry → IsCounted (told shape name s entry)
   step s entry has may = elim (on_row_or_not entry name) [
     | inl here ↦ by_entry case s.run name (kinds.Count size) (λ e. IsCounted (told shape name s e)) kind
-        (λ seq id effects m. handles s seq id effects has m) (λ seq timer mark effects m. fires s seq timer mark effects has m)
+        (λ seq id effects m. handles s seq id effects has m)
+        (λ seq timer mark effects m. fires s seq timer mark effects has m)
         (λ seq id m. same-state s (Ack seq name id) has refl
         (ap (λ c. c.state) (row_of-here shape s.run (Ack seq name id) name refl)))
         (λ seq floor m. same-state s (Purge seq name floor) has refl

@@ -409,6 +409,7 @@ module _ (case : CaseShape) (name : RowName) (last times : ℕ) (runs : IsRunnab
         (adds-none (run_of shape h) (Ack seq name id) refl) refl)
         (λ seq floor m. quiet h (Purge seq name floor) was.late was legal m
         (ap (λ c. c.state) (row_of-here shape (run_of shape h) (Purge seq name floor) name refl) ∙ was.state)
-        (ap (λ c. c.timers) (row_of-here shape (run_of shape h) (Purge seq name floor) name refl)) refl refl refl) entry may here
+        (ap (λ c. c.timers) (row_of-here shape (run_of shape h) (Purge seq name floor) name refl)) refl refl refl)
+        entry may here
     | inr apart ↦ off_row h entry legal may was apart
   ]) first-spiked

@@ -210,7 +210,8 @@ module _ (case : CaseShape) (name : RowName) (size : ℕ) (kind : kind_of case.t
   timed-step : (s : Told) (entry : Entry) → IsTimed s → MayFollow case s.run entry → IsTimed (told shape name s entry)
   timed-step s entry has may = elim (on_row_or_not entry name) [
     | inl here ↦ by_entry case s.run name (kinds.Count size) (λ e. IsTimed (told shape name s e)) kind
-        (λ seq id effects m. handles s seq id effects has m) (λ seq timer mark effects m. fires s seq timer mark effects has m)
+        (λ seq id effects m. handles s seq id effects has m)
+        (λ seq timer mark effects m. fires s seq timer mark effects has m)
         (λ seq id m. same-row s (Ack seq name id) has m refl
         (ap (λ c. c.timers) (row_of-here shape s.run (Ack seq name id) name refl)))
         (λ seq floor m. same-row s (Purge seq name floor) has m refl

@@ -82,12 +82,15 @@ entry_for-own case history (Inject seq part line item) may under =
     ∙ ap (option_map (Inject seq part line)) may.of_line
 entry_for-own case history (Handle seq row id effects) may under =
     let item = may.delivery.item in
-    ap (option_and_then (λ (d : Delivery). brought_by case history d.to (OfRecord d.item) (λ s. Handle s d.to id))) may.waits
+    ap (option_and_then (λ (d : Delivery). brought_by case history d.to (OfRecord d.item) (λ s. Handle s d.to id)))
+    may.waits
     ∙ ap (λ (r : RowName). brought_by case history r (OfRecord item) (λ s. Handle s r id)) may.to_row
     ∙ brought_by-left case history row (OfRecord item) (λ s. Handle s row id) seq effects (under row refl) may.does
 entry_for-own case history (Fire seq row timer mark effects) may under =
-    ap (option_and_then (λ (t : Timer). brought_by case history row (OfTimer t) (λ s. Fire s row t mark))) may.least_timer
-    ∙ brought_by-left case history row (OfTimer timer) (λ s. Fire s row timer mark) seq effects (under row refl) may.does
+    ap (option_and_then (λ (t : Timer). brought_by case history row (OfTimer t) (λ s. Fire s row t mark)))
+    may.least_timer
+    ∙ brought_by-left case history row (OfTimer timer) (λ s. Fire s row timer mark) seq effects (under row refl)
+    may.does
 entry_for-own case history (Ack seq row id) may under = ap (option_map (λ s. Ack s row id)) (under row refl)
 entry_for-own case history (Purge seq row floor) may under = ap (option_map (λ s. Purge s row floor)) (under row refl)
 
