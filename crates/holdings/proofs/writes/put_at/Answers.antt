@@ -8,8 +8,8 @@ use Rattle.holdings.proofs.HeldSteps.{ok-so}
 use Rattle.holdings.proofs.writes.put_at.Goals as goal
 
 -- what is held then stands in the place
-pub returns-in-Some-clause-put : goal.returns-in-Some-clause-put
-returns-in-Some-clause-put g c =
+pub returns-clause-put : goal.returns-clause-put
+returns-clause-put g c =
     let old = g.D.Desk.view c.args.desk.now in
     let new = g.D.Desk.view c.put.new.desk in
     rw c.in-Some.is (ok-so
