@@ -1,5 +1,5 @@
 -- What a node leaves when a timer fires.
-use Rattle.std.proofs.Common.{◌≡◌, ◌∙◌, ◌+◌, ℕ, List, ◌++◌, refl, sym, ap, subst}
+use Rattle.std.proofs.Common.{◌≡◌, ◌∙◌, ℕ, List, ◌++◌, refl, sym, ap, subst}
 use Rattle.std.specs.Prelude.{All, IfErr, IfOk, IfSome, Option, Some, None, Result, slice_get, unwrap_or}
 use Rattle.std.proofs.lemmas.List.Elements.{All-append}
 use Rattle.list_lemmas.proofs.Told.{if-anyway}

@@ -28,7 +28,6 @@ use Rattle.node.specs.PurgeSteps.{AreRowsWithin, CanForget, IsToPurge}
 use Rattle.node.specs.Workers.{NodeView, worker_at}
 use Rattle.node.specs.declared.outcome.NodeFault.{NodeFault}
 use Rattle.node.specs.declared.outcome.Outcome.{Outcome}
-use Rattle.node.specs.declared.outcome.Outcome.TheVariants as outcomes
 use Rattle.node.proofs.PurgeLaws.{held-at-on, held-on-at}
 use Rattle.node.proofs.LookLaws.{answers-later, err-fails, fault-later}
 use Rattle.node.proofs.PurgeLaws.{answers-some, floor-known, ok-answers}

@@ -1,6 +1,5 @@
-use Rattle.std.proofs.Common.{rules, ◌≡◌, ◌∙◌, ◌++◌, List, ap, length, map, subst, sym}
+use Rattle.std.proofs.Common.{rules, ◌≡◌, ◌∙◌, ◌++◌, List, length, map, subst, sym}
 use Rattle.outbox.specs.Messages.{sent_again}
-use Rattle.holdings.specs.declared.pending.Sent.{Sent}
 use Rattle.node.specs.Answers.{IsSweptOlder, older_than}
 use Rattle.node.specs.FireSteps.{AreAllWithin}
 use Rattle.node.specs.Fits.{Fits}
