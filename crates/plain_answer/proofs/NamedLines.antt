@@ -20,7 +20,7 @@ use Rattle.plain_answer.proofs.Parts.{stream_total}
 use Rattle.plain_answer.proofs.Same.{plain_of-same}
 use Rattle.plain_answer.proofs.Sent.{none_reads}
 use Rattle.plain_answer.proofs.StreamNames.{Streams, and_stream, and_given, read_named, named_with}
-use Rattle.plain_answer.proofs.StillRead.{behind-other}
+use Rattle.topology.proofs.StillRead.{behind-other}
 use Rattle.plain_answer.proofs.NamedReads.{stream_total-same, named_total, names-total, AreNamed, named-length, reads-named}
 
 -- ---- the streams of a case by name
