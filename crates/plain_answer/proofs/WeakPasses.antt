@@ -108,7 +108,8 @@ module _ (case : CaseShape) (rules : IsTopology case.topology) where
     computations-same : total before (streams_by cs) ≡ total after (streams_by (strong_ones cs))
     computations-same = total-left before after cs
         (each-weaker
-        (λ (c : ComputationShape). (c.weak ≡ true → is_read cs c.stream ≡ true) × (c.weak ≡ false → IsOfStrong c.stream cs))
+        (λ (c : ComputationShape).
+        (c.weak ≡ true → is_read cs c.stream ≡ true) × (c.weak ≡ false → IsOfStrong c.stream cs))
         (CountsWhereStrong before after)
         (λ c facts. (λ weak. of_read c.stream (facts.0 weak), λ strong. of_strong c.stream (facts.1 strong)))
         cs
@@ -131,4 +132,5 @@ module _ (case : CaseShape) (rules : IsTopology case.topology) where
       let lines_with : Shape → List ResultLine = λ shape. plain_lines (record case { topology = shape }) in
       totals-permutation (λ a b. is_eq (line_cmp a b)) same-line (λ a. ap is_eq (tied_itself line_cmp-total a))
       (plain_lines case) (lines_with (folded case.topology))
-      (subst (λ shape. HaveSameTotals (plain_lines case) (lines_with shape)) (sym (folded-strong case.topology)) lines-left)
+      (subst (λ shape. HaveSameTotals (plain_lines case) (lines_with shape)) (sym (folded-strong case.topology))
+      lines-left)
