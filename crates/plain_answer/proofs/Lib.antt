@@ -43,7 +43,6 @@ pub mod KindShards
 pub mod TextShards
 pub mod Cuts
 pub mod StreamNames
-pub mod StillRead
 pub mod NamedReads
 pub mod NamedLines
 pub mod WeakPasses

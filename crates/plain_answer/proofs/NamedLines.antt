@@ -20,8 +20,8 @@ use Rattle.plain_answer.proofs.Parts.{stream_total}
 use Rattle.plain_answer.proofs.Same.{plain_of-same}
 use Rattle.plain_answer.proofs.Sent.{none_reads}
 use Rattle.plain_answer.proofs.StreamNames.{Streams, and_stream, and_given, read_named, named_with}
-use Rattle.plain_answer.proofs.StillRead.{behind-other}
-use Rattle.plain_answer.proofs.NamedReads.{stream_total-same, named_total, names-total, AreNamed, named-length, reads-named}
+use Rattle.topology.proofs.StillRead.{behind-other}
+use Rattle.plain_answer.proofs.NamedReads.{stream_total-same, names-total, AreNamed, reads-named}
 
 -- ---- the streams of a case by name
 
@@ -169,14 +169,6 @@ none-subscribes s n (c ∷ cs) =
     neither true b = refl
     neither false b = refl
 
--- a sum over streams by number is that over their names
-named-values : (h : List ℕ → Record → ℕ) (names : List (List ℕ)) (xs : List (List Record)) (streams : Streams)
-    → AreNamed names xs streams → named_total h names xs ≡ total (λ s. total (h s) (streams s)) names
-named-values h [] [] streams named = refl
-named-values h [] (x ∷ xs) streams named = absurd named
-named-values h (name ∷ names) [] streams named = absurd named
-named-values h (name ∷ names) (x ∷ xs) streams named = λ i. named.0 (h name) i + named-values h names xs streams named.1 i
-
 -- what a member of a stream counts by its line, if nothing reads the stream
 abbrev pub line_value : (ResultLine → ℕ) → List ComputationShape → List ℕ → Record → ℕ
 line_value g cs s r = when (not (is_read cs s)) (g (plain_line s r))
@@ -196,9 +188,7 @@ lines-total case differ reads g =
     (λ o. ap (λ b. when b (g (plain_line (stream_of shape o.0) o.1)))
     (none-subscribes (stream_of shape o.0) (injectors_of shape) shape.computations))
     ∙ ap (λ l. stream_total (λ o. value (unwrap_or (slice_get l o.0) []) o.1) 0 (plain_streams case)) (sym (append-nil (streams_of shape)))
-    ∙ names-total value [] (streams_of shape) [] (plain_streams case)
-    (named-length (streams_of shape) (plain_streams case) (case_streams case) named)
-    ∙ named-values value (streams_of shape) (plain_streams case) (case_streams case) named
+    ∙ names-total value (streams_of shape) [] (plain_streams case) (case_streams case) named
   where
     shape : Shape
     shape = case.topology

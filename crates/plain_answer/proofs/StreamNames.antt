@@ -10,6 +10,7 @@ use Rattle.topology.specs.Rules.{IsPassWhereWeak}
 use Rattle.topology.proofs.FoldLaws.{reading_through, through, strong_ones}
 use Rattle.topology.proofs.ReadOrder.{is, IsApart, AreApart}
 use Rattle.topology.proofs.WhatIsLeft.{each-left}
+use Rattle.topology.proofs.StillRead.{IsOfStrong}
 use Rattle.list_lemmas.proofs.Totals.{total, total-map, total-flat_map, total-same, HaveSameTotals}
 use Rattle.plain_answer.specs.Plain.{Keyed, plain_of}
 use Rattle.plain_answer.proofs.Same.{plain_of-same}
@@ -159,10 +160,6 @@ seen-pass streams weak pass = record { elsewhere = elsewhere; passed = passed }
         ∙ ap (λ kind. total g (plain_of kind (read_named streams weak.reads))) pass
 
 -- ---- all weak computations
-
--- no weak one of these publishes this stream
-abbrev pub IsOfStrong : List ℕ → List ComputationShape → Type 0
-IsOfStrong s cs = AllByRecursion (λ (c : ComputationShape). c.weak ≡ true → is s c.stream ≡ false) cs
 
 -- a stream that no weak computation publishes has the same without the weak ones
 pub same-strong : (streams : Streams) (cs : List ComputationShape) → AreApart cs → AllByRecursion IsPassWhereWeak cs

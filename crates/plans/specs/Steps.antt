@@ -5,20 +5,32 @@ use Rattle.topology.specs.Rules.{interval_count}
 use Rattle.plans.specs.declared.step.Step.{Step}
 use Rattle.plans.specs.declared.step.Step.TheVariants as steps
 
--- a step is one of a topology and of so many relays: its worker, interval and relay are there, its part is an
--- injector where it injects and a computation where it fires, and its message is below 2^32
+-- workers have the numbers of sixteen
+abbrev pub IsWorker : ℕ → Type 0
+IsWorker worker = worker < 16
+
+-- and messages 32 bits
+abbrev pub IsMessage : ℕ → Type 0
+IsMessage message = message < 2 ^ 32
+
+-- there is such an interval
+abbrev pub IsInterval : Shape → ℕ → Type 0
+IsInterval shape interval = interval < interval_count shape
+
+-- whoever and whatever a step names is there, over this topology and so many relays: what is injected is of an
+-- injector, and what is fired of a computation
 abbrev pub IsStep : Shape → ℕ → Step → Type 0
-IsStep shape weaks (steps.Claim worker interval) = (worker < 16) × (interval < interval_count shape)
-IsStep shape weaks (steps.Inject worker part) = (worker < 16) × (part < injectors_of shape)
-IsStep shape weaks (steps.Send worker) = worker < 16
-IsStep shape weaks (steps.Take worker message) = (worker < 16) × (message < 2 ^ 32)
-IsStep shape weaks (steps.Write worker) = worker < 16
-IsStep shape weaks (steps.Fire worker part) = (worker < 16) × (injectors_of shape ≤ part) × (part < parts_of shape)
-IsStep shape weaks (steps.Report worker interval) = (worker < 16) × (interval < interval_count shape)
-IsStep shape weaks (steps.Resend worker) = worker < 16
-IsStep shape weaks (steps.Purge worker interval) = (worker < 16) × (interval < interval_count shape)
-IsStep shape weaks (steps.Repeat message) = message < 2 ^ 32
-IsStep shape weaks (steps.Lose message) = message < 2 ^ 32
-IsStep shape weaks (steps.Relay relay message) = (relay < weaks) × (message < 2 ^ 32)
-IsStep shape weaks (steps.Forget relay) = relay < weaks
-IsStep shape weaks (steps.Crash worker) = worker < 16
+IsStep shape relays (steps.Claim worker interval) = IsWorker worker × IsInterval shape interval
+IsStep shape relays (steps.Report worker interval) = IsWorker worker × IsInterval shape interval
+IsStep shape relays (steps.Purge worker interval) = IsWorker worker × IsInterval shape interval
+IsStep shape relays (steps.Inject worker injector) = IsWorker worker × (injector < injectors_of shape)
+IsStep shape relays (steps.Fire worker part) = IsWorker worker × (injectors_of shape ≤ part) × (part < parts_of shape)
+IsStep shape relays (steps.Take worker message) = IsWorker worker × IsMessage message
+IsStep shape relays (steps.Send worker) = IsWorker worker
+IsStep shape relays (steps.Write worker) = IsWorker worker
+IsStep shape relays (steps.Resend worker) = IsWorker worker
+IsStep shape relays (steps.Crash worker) = IsWorker worker
+IsStep shape relays (steps.Repeat message) = IsMessage message
+IsStep shape relays (steps.Lose message) = IsMessage message
+IsStep shape relays (steps.Relay relay message) = (relay < relays) × IsMessage message
+IsStep shape relays (steps.Forget relay) = relay < relays

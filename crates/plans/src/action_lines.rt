@@ -6,7 +6,7 @@ ghost use Rattle.plans.specs.Named.{interval_in};
 ghost use Rattle.plans.specs.Plans.{IsAction, IsWhat, action_of, happens_in, happens_to, moved_to, round_in, timed, what_of, worker_in};
 
 use crate::action::{Action, What};
-use crate::named::interval_in;
+use crate::named::{interval_in, is_word};
 use run_history::Case;
 use text_lines::{LineReader, below, first_word};
 
@@ -53,15 +53,15 @@ fn happens_to(workers: u32, verb: &[u8], word: &[u8]) -> Option<What>
     ensures what { result ≡ happens_to workers verb.now word.now }
     ensures there { (shape : Shape) → IfSome result (IsWhat shape workers) }
 {
-    if verb == b"crash".as_slice() {
+    if is_word(verb, "crash") {
         worker_in(workers, word).map(|worker| What::Crash { worker })
-    } else if verb == b"stall".as_slice() {
+    } else if is_word(verb, "stall") {
         worker_in(workers, word).map(|worker| What::Stall { worker })
-    } else if verb == b"repeat".as_slice() {
+    } else if is_word(verb, "repeat") {
         worker_in(workers, word).map(|worker| What::Repeat { worker })
-    } else if verb == b"lose".as_slice() {
+    } else if is_word(verb, "lose") {
         worker_in(workers, word).map(|worker| What::Lose { worker })
-    } else if verb == b"hold".as_slice() {
+    } else if is_word(verb, "hold") {
         worker_in(workers, word).map(|worker| What::Hold { worker })
     } else {
         None
@@ -73,7 +73,7 @@ fn moved_to(case: &Case, workers: u32, verb: &[u8], a: &[u8], b: &[u8]) -> Optio
     ensures what { result ≡ moved_to case.now.topology workers verb.now a.now b.now }
     ensures there { IfSome result (IsWhat case.now.topology workers) }
 {
-    if verb == b"move".as_slice() {
+    if is_word(verb, "move") {
         let interval = interval_in(case, a)?;
         let worker = worker_in(workers, b)?;
         Some(What::Move { interval, worker })

@@ -1,5 +1,5 @@
 //! What a plan says, of either mode: the steps of a script, which `replay` does, or what happens to workers
-//! that are threads, which `run` has happen; one a line.
+//! in two threads, which `run` has happen; one a line.
 //!
 //! A line of a schedule is a verb and its one or two numbers. A line of actions is `at`, a round, a verb and a
 //! worker, and `move` has an interval before its worker. Stands on `run_history`, whose cases have the

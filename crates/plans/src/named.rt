@@ -1,6 +1,7 @@
 //! What a word of a line names, in plans of either mode.
 ghost use Rattle.std.specs.Prelude.{◌≡◌, ◌<◌, IfSome};
 ghost use Rattle.topology.specs.Rules.{interval_count};
+ghost use Rattle.text_lines.specs.Words.{is_word};
 ghost use Rattle.plans.specs.Named.{interval_in};
 
 use run_history::Case;
@@ -12,4 +13,11 @@ pub(crate) fn interval_in(case: &Case, word: &[u8]) -> Option<u32>
     ensures range { IfSome result (λ n. n < interval_count case.now.topology) }
 {
     below(u64::from(case.intervals().count()), word)
+}
+
+// Whether a word is this one.
+pub(crate) fn is_word(word: &[u8], text: &str) -> bool
+    ensures { result ≡ is_word word.now text.now }
+{
+    word == text.as_bytes()
 }

@@ -36,8 +36,8 @@ impl Schedule {
     }
 }
 
-/// Reads a schedule for a case, whose intervals and parts its lines may name, and for so many relays, as many
-/// as folding left weak computations out.
+/// Reads a schedule. Its lines may name the intervals and the parts of a case, and so many relays:
+/// one for each weak computation that was taken out of the case's topology.
 pub fn read_schedule(
     alloc: Global,
     bytes: &[u8],
@@ -52,6 +52,7 @@ pub fn read_schedule(
     ensures refused { IfErr result
         (IsRefusalOf PlanRefusal.NoMemory (schedule_of case.now.topology weaks bytes.now)) }
 {
-    let steps = read_all(alloc, bytes, &StepReader { case, weaks })?;
+    let by = StepReader { case, weaks };
+    let steps = read_all(alloc, bytes, &by)?;
     Ok(Schedule { steps })
 }
