@@ -106,7 +106,8 @@ fits-injected case n name row left productions late fit injector there state tim
     ∙ pending-fits case.topology n name.part productions late row.pending parts.1)
 
 -- a computation's row still fits, once its handler has left its state
-fits-caused : (case : CaseShape) (n : ℕ) (name : RowName) (row left : Contents) (cause : Cause) (o : EffectsView) (late : Bool)
+fits-caused : (case : CaseShape) (n : ℕ) (name : RowName) (row left : Contents) (cause : Cause) (o : EffectsView)
+    (late : Bool)
     → fits case n name row ≡ true → IsOutcome case name row cause o → left.state ≡ o.state
     → left.pending ≡ row.pending ++ deliveries_made case.topology name.part o.productions late n
     → fits case (n + 1) name left ≡ true
@@ -171,10 +172,12 @@ next-handled book lease front name row left delivery effects lawful uses seen la
     let sent = deliveries_made shape name.part effects.productions late number in
     let cause = OfRecord delivery.item in
     let outcome = IsOutcome-does book.case name row cause effects handling.does in
-    IsNext-seen book lease front name entry row left sent lawful uses seen last room refl refl outcome.leaves.productions.few
+    IsNext-seen book lease front name entry row left sent lawful uses seen last room refl refl
+    outcome.leaves.productions.few
     handling.id leaves
     (subst (λ (c : Contents). fits book.case (number + 1) name c ≡ true) (sym leaves)
-    (fits-caused book.case number name row (written_row number entry sent row) cause effects late seen.fit outcome refl refl))
+    (fits-caused book.case number name row (written_row number entry sent row)
+    cause effects late seen.fit outcome refl refl))
     (told-then book.rows
     (λ r. HoldsRowsOf book.case book.history r × ((row ≡ row_of shape (run_of shape (known lease.interval lease.seq first)) name) ×
     (found_delivery delivery.id (run_of shape first).made ≡ Some delivery))) _
@@ -186,7 +189,8 @@ next-handled book lease front name row left delivery effects lawful uses seen la
     (p.1.0 ∙ row-front book lease front name uses last) handling in record {
       delivery = delivery;
       waits = waits-unless_finished book.case first delivery legal.legal p.1.1
-          (ap (λ (n : RowName). is_finished delivery.id (row_of shape (run_of shape first) n)) handling.to_row ∙ handles.new);
+          (ap (λ (n : RowName). is_finished delivery.id (row_of shape (run_of shape first) n)) handling.to_row
+          ∙ handles.new);
       to_row = handling.to_row;
       does = handles.does;
     }))
@@ -216,9 +220,11 @@ next-fired book lease front name row left timer mark effects lawful uses seen la
     let sent = deliveries_made shape name.part effects.productions timer.late number in
     let cause = OfTimer timer in
     let outcome = IsOutcome-does book.case name row cause effects firing.does in
-    IsNext-seen book lease front name entry row left sent lawful uses seen last room refl refl outcome.leaves.productions.few tt leaves
+    IsNext-seen book lease front name entry row left sent lawful uses seen last room refl refl
+    outcome.leaves.productions.few tt leaves
     (subst (λ (c : Contents). fits book.case (number + 1) name c ≡ true) (sym leaves)
-    (fits-caused book.case number name row (written_row number entry sent row) cause effects timer.late seen.fit outcome refl refl))
+    (fits-caused book.case number name row (written_row number entry sent row)
+    cause effects timer.late seen.fit outcome refl refl))
     (told-then book.rows
     (λ r. (row ≡ row_of shape (run_of shape (known lease.interval lease.seq first)) name) × IsDueUnder book.case
     (run_of shape first) name.part mark timer) _

@@ -180,7 +180,8 @@ record-nothing size key state item = refl
 
 -- and of a timer only under its row's key
 timer-key : (size : ℕ) (key : List ℕ) (state : State) (timer : Timer)
-    → AllByRecursion (λ (p : Production). p.key ≡ key) (effects_of (kinds.Count size) key state (OfTimer timer)).productions
+    → AllByRecursion (λ (p : Production). p.key ≡ key)
+    (effects_of (kinds.Count size) key state (OfTimer timer)).productions
 timer-key size key (states.Count late windows) timer = by_due (window_due windows timer)
   where
     by_due : (due : Option Window) → AllByRecursion (λ (p : Production). p.key ≡ key) (count_timer key late windows due).productions
@@ -295,7 +296,8 @@ module _ (case : CaseShape) (name : RowName) (size end : ℕ) (runs : IsRunnable
       (computation-apart shape name.part other (kinds.Count size) kind may.injector))) nil-no_fire
   adds-here h (Handle seq row id effects) legal may short =
       quiet h (Handle seq row id effects) legal may
-      (ap here (handled-nothing case (run_of shape h) name.part (kinds.Count size) seq row id effects kind (record-nothing size) may))
+      (ap here (handled-nothing case (run_of shape h) name.part (kinds.Count size) seq row id effects kind
+      (record-nothing size) may))
       (λ time. taken-no_fire (found_delivery id (run_of shape h).unhandled) (is_at (row_cmp name) row) time)
   adds-here h (Fire seq row timer mark effects) legal may short =
       elim (is_at (row_cmp name) row) as
@@ -311,8 +313,10 @@ module _ (case : CaseShape) (name : RowName) (size end : ℕ) (runs : IsRunnable
             ≡ closed size name.key end (deeds_of shape name h ++ deeds_in name (run_of shape h) (Fire seq r timer mark effects)))
             (same_row name row e) (λ m s. fires-here h seq timer mark effects legal m s) may short
         | false ↦ λ e. quiet h (Fire seq row timer mark effects) legal may
-            (fired-other case (run_of shape h) name.part (kinds.Count size) seq row timer mark effects (at_place (name.key, end)) kind
-            (timer-key size) (λ same r is. ap (λ b. b && (r.stamp == end)) (ap (pointwise nat_eq name.key) is ∙ key-differs row same e)) may)
+            (fired-other case (run_of shape h) name.part (kinds.Count size) seq row timer mark effects
+            (at_place (name.key, end)) kind
+            (timer-key size) (λ same r is. ap (λ b. b && (r.stamp == end))
+            (ap (pointwise nat_eq name.key) is ∙ key-differs row same e)) may)
             (λ time is. nil-no_fire time (sym (ap (λ b. cond b (cond (timer.tag == 0) (fired timer.time ∷ []) []) []) e) ∙ is))
       ] refl
   adds-here h (Ack seq row id) legal may short = quiet h (Ack seq row id) legal may (none (Ack seq row id) refl) nil-no_fire

@@ -13,7 +13,7 @@ use Rattle.mw_types.specs.declared.state.Window.{Window}
 use Rattle.mw_types.specs.declared.record.Record.{Record}
 use Rattle.mw_types.specs.declared.timer.Timer.{Timer}
 use Rattle.mw_types.specs.declared.entry.Entry.{Entry}
-use Rattle.mw_types.specs.declared.entry.Entry.TheVariants.{Claim, Inject, Handle, Fire, Ack, Purge}
+use Rattle.mw_types.specs.declared.entry.Entry.TheVariants.{Handle, Fire, Ack, Purge}
 use Rattle.mw_types.specs.Orders.{row_cmp}
 use Rattle.mw_types.specs.Outcomes.{EffectsView}
 use Rattle.mw_types.proofs.OrderLaws.{row_cmp-total}
@@ -25,12 +25,11 @@ use Rattle.run_history.specs.Cases.{CaseShape}
 use Rattle.run_history.specs.Made.{row_written}
 use Rattle.run_history.specs.Runs.{Run, run_of, row_of, followed, empty_run}
 use Rattle.run_history.specs.Legal.{MayHandle, MayFire, MayFollow, IsLegal}
-use Rattle.list_lemmas.proofs.Lists.{none_some, some_same}
+use Rattle.list_lemmas.proofs.Lists.{none_some}
 use Rattle.history_laws.proofs.Along.{along_history}
-use Rattle.history_laws.proofs.FeedLaws.{injector-no_kind}
 use Rattle.history_laws.proofs.RowSteps.{same_row, on_row_or_not, row_of-here, row_of-elsewhere}
 use Rattle.plain_answer.specs.Deeds.{Deed, took, fired, after_deed, windows_after, taken, deeds_in, Told, told, told_of, deeds_of}
-use Rattle.plain_answer.proofs.Causes.{kind-left}
+use Rattle.plain_answer.proofs.Causes.{kind-left, by_entry}
 
 -- ---- what the handlers leave
 
@@ -130,7 +129,8 @@ module _ (case : CaseShape) (name : RowName) (size : ℕ) (kind : kind_of case.t
       let entry : Entry = Handle seq name id effects in
       let ws : List Window = windows_after size s.deeds in
       let item : Record = may.delivery.item in
-      let left : count_record size has.late ws item ≡ effects = kind-left case name (row_of shape s.run name) (OfRecord item) effects
+      let left : count_record size has.late ws item ≡ effects =
+      kind-left case name (row_of shape s.run name) (OfRecord item) effects
       (kinds.Count size) (states.Count has.late ws) kind has.is may.does in
       let state = record-state size has.late ws item in
       let here : (row_of shape (followed shape s.run entry) name).state ≡ effects.state =
@@ -145,7 +145,8 @@ module _ (case : CaseShape) (name : RowName) (size : ℕ) (kind : kind_of case.t
   fires s seq timer mark effects has may =
       let entry : Entry = Fire seq name timer mark effects in
       let ws : List Window = windows_after size s.deeds in
-      let left : count_timer name.key has.late ws (window_due ws timer) ≡ effects = kind-left case name (row_of shape s.run name)
+      let left : count_timer name.key has.late ws (window_due ws timer) ≡ effects =
+      kind-left case name (row_of shape s.run name)
       (OfTimer timer) effects (kinds.Count size) (states.Count has.late ws) kind has.is may.does in
       let here : (row_of shape (followed shape s.run entry) name).state ≡ effects.state =
       ap (λ c. c.state) (row_of-here shape s.run entry name refl) in
@@ -153,30 +154,16 @@ module _ (case : CaseShape) (name : RowName) (size : ℕ) (kind : kind_of case.t
       let does_fire : deeds_in name s.run entry ≡ ds = ap (λ b. cond b ds []) (tie name) in
       more s entry has.late ds does_fire (here ∙ ap (λ (o : EffectsView). o.state) (sym left) ∙ timer-state size name.key has.late ws timer)
 
-  -- an entry on the row
-  on_row : (s : Told) (entry : Entry) → IsCounted s → MayFollow case s.run entry → row_written entry ≡ Some name
-      → IsCounted (told shape name s entry)
-  on_row s (Claim worker interval) has may here = absurd (none_some name here)
-  on_row s (Inject seq part line item) has may here =
-      let same : part ≡ name.part = ap (λ (r : RowName). r.part) (some_same _ name here) in
-      absurd (injector-no_kind shape part (kinds.Count size) may.injector (ap (kind_of shape) same ∙ kind))
-  on_row s (Handle seq row id effects) has may here =
-      let same : name ≡ row = sym (some_same row name here) in
-      subst (λ (r : RowName). MayHandle case s.run r id effects → IsCounted (told shape name s (Handle seq r id effects))) same
-      (λ m. handles s seq id effects has m) may
-  on_row s (Fire seq row timer mark effects) has may here =
-      let same : name ≡ row = sym (some_same row name here) in
-      subst (λ (r : RowName). MayFire case s.run r timer mark effects → IsCounted (told shape name s (Fire seq r timer mark effects))) same
-      (λ m. fires s seq timer mark effects has m) may
-  on_row s (Ack seq row id) has may here =
-      same-state s (Ack seq row id) has refl (ap (λ c. c.state) (row_of-here shape s.run (Ack seq row id) name here))
-  on_row s (Purge seq row floor) has may here =
-      same-state s (Purge seq row floor) has refl (ap (λ c. c.state) (row_of-here shape s.run (Purge seq row floor) name here))
-
   -- any entry
   pub step : (s : Told) (entry : Entry) → IsCounted s → MayFollow case s.run entry → IsCounted (told shape name s entry)
   step s entry has may = elim (on_row_or_not entry name) [
-    | inl here ↦ on_row s entry has may here
+    | inl here ↦ by_entry case s.run name (kinds.Count size) (λ e. IsCounted (told shape name s e)) kind
+        (λ seq id effects m. handles s seq id effects has m)
+        (λ seq timer mark effects m. fires s seq timer mark effects has m)
+        (λ seq id m. same-state s (Ack seq name id) has refl
+        (ap (λ c. c.state) (row_of-here shape s.run (Ack seq name id) name refl)))
+        (λ seq floor m. same-state s (Purge seq name floor) has refl
+        (ap (λ c. c.state) (row_of-here shape s.run (Purge seq name floor) name refl))) entry may here
     | inr apart ↦ same-state s entry has (deeds-apart name s.run entry apart)
         (ap (λ c. c.state) (row_of-elsewhere shape s.run entry name apart))
   ]

@@ -39,7 +39,8 @@ module _ (case : CaseShape) (part size : ℕ) (kind : kind_of case.topology part
       sym (ap length (added-other part (run_of shape h) (Inject seq other line item) (record { part = other; key = [] }) refl
       (computation-apart shape part other (kinds.Count size) kind may.injector)))
   one h (Handle seq row id effects) legal may =
-      sym (ap length (handled-nothing case (run_of shape h) part (kinds.Count size) seq row id effects kind (record-nothing size) may))
+      sym (ap length (handled-nothing case (run_of shape h) part (kinds.Count size) seq row id effects kind
+      (record-nothing size) may))
   one h (Fire seq row timer mark effects) legal may =
       elim (row.part == part) as
       (λ b. (row.part == part) ≡ b → ◌≡◌ {A = ℕ} (cond b 1 0)
@@ -50,7 +51,8 @@ module _ (case : CaseShape) (part size : ℕ) (kind : kind_of case.topology part
             let ws : List Window = windows_after size (deeds_of shape row h) in
             let set = each-at (IsSet ws) (row_of shape run row).timers 0 timer (legal-set case row size of h legal) may.least_timer in
             let counts = count-windows case row size of h legal in
-            let left : count_timer row.key counts.0 ws (window_due ws timer) ≡ effects = kind-left case row (row_of shape run row)
+            let left : count_timer row.key counts.0 ws (window_due ws timer) ≡ effects =
+            kind-left case row (row_of shape run row)
             (OfTimer timer) effects (kinds.Count size) (states.Count counts.0 ws) of counts.1 may.does in
             let found = found-window timer.time ws set.2 in
             let due : window_due ws timer ≡ Some found.0 =

@@ -74,29 +74,36 @@ IsGradedCause part (OfRecord item) = item.stamp ≤ grade part
 IsGradedCause part (OfTimer timer) = timer.time ≤ grade part + 2 ^ 40
 
 -- such a cause is in time
-graded-in_time : (shape : Shape) (part : ℕ) (cause : Cause) → IsTopology shape → part < parts_of shape → IsGradedCause part cause
+graded-in_time : (shape : Shape) (part : ℕ) (cause : Cause) → IsTopology shape → part < parts_of shape
+    → IsGradedCause part cause
     → stamp_of cause ≤ MAX_STAMP
-graded-in_time shape part (OfRecord item) rules there low = omega (arith, there, low, rules.few_injectors, rules.few_computations)
-graded-in_time shape part (OfTimer timer) rules there low = omega (arith, there, low, rules.few_injectors, rules.few_computations)
+graded-in_time shape part (OfRecord item) rules there low =
+    omega (arith, there, low, rules.few_injectors, rules.few_computations)
+graded-in_time shape part (OfTimer timer) rules there low =
+    omega (arith, there, low, rules.few_injectors, rules.few_computations)
 
 -- what is near it is within a step of the grade
-near-graded : (part : ℕ) (cause : Cause) (stamp : ℕ) → IsGradedCause part cause → IsNear cause stamp → stamp ≤ grade part + 2 ^ 40
+near-graded : (part : ℕ) (cause : Cause) (stamp : ℕ) → IsGradedCause part cause → IsNear cause stamp
+    → stamp ≤ grade part + 2 ^ 40
 near-graded part (OfRecord item) stamp low near = omega (arith, low, near)
 near-graded part (OfTimer timer) stamp low near = omega (arith, low, near)
 
 -- and so are the timers that it sets, which are of a record
-set-graded : (part : ℕ) (cause : Cause) (set : List Timer) → IsGradedCause part cause → (is_record cause ≡ false → set ≡ [])
+set-graded : (part : ℕ) (cause : Cause) (set : List Timer) → IsGradedCause part cause
+    → (is_record cause ≡ false → set ≡ [])
     → AllByRecursion (IsTimerAfter cause) set → AllByRecursion (IsDueBy part) set
 set-graded part (OfRecord item) set low none after = each-weaker (IsTimerAfter (OfRecord item)) (IsDueBy part)
     (λ t (is : IsTimerAfter (OfRecord item) t). let near = is.near in omega (arith, low, near)) set after
 set-graded part (OfTimer timer) set low none after = subst (AllByRecursion (IsDueBy part)) (sym (none refl)) tt
 
-module _ (case : CaseShape) (runs : IsRunnable case) (run : Run) (entry : Entry) (name : RowName) (cause : Cause) (effects : EffectsView)
+module _ (case : CaseShape) (runs : IsRunnable case) (run : Run) (entry : Entry) (name : RowName) (cause : Cause)
+    (effects : EffectsView)
     (graded : AreGraded case.topology run) (caused : IsCaused case run entry name cause effects) where
   -- a cause is graded
   caused-graded : IsGradedCause name.part cause
   caused-graded = of_standing case run name cause IsGraded (IsDueBy name.part) (IsGradedCause name.part) graded.waiting
-      (graded.timers name) (λ d to low. subst (λ (r : RowName). d.item.stamp ≤ grade r.part) to low) (λ t due. due) caused.stands
+      (graded.timers name) (λ d to low. subst (λ (r : RowName). d.item.stamp ≤ grade r.part) to low) (λ t due. due)
+      caused.stands
 
   -- its part is there
   there : name.part < parts_of case.topology
@@ -115,11 +122,13 @@ module _ (case : CaseShape) (runs : IsRunnable case) (run : Run) (entry : Entry)
   caused-sent_graded = caused-sent case run entry name cause effects caused IsGraded
       (sent-graded case.topology name.part effects.productions (late_cause run.made entry) run.next runs.topology there
       (each-weaker (IsProductionAfter cause) (λ (p : Production). p.stamp ≤ grade name.part + 2 ^ 40)
-      (λ p (is : IsProductionAfter cause p). near-graded name.part cause p.stamp caused-graded is.near) effects.productions
+      (λ p (is : IsProductionAfter cause p). near-graded name.part cause p.stamp caused-graded is.near)
+      effects.productions
       (caused.outcome.leaves.productions.each ranged in_time)))
 
   -- and so are the timers of its row
-  caused-due : (sent : List Delivery) → AllByRecursion (IsDueBy name.part) (changed entry sent (row_of case.topology run name)).timers
+  caused-due : (sent : List Delivery)
+      → AllByRecursion (IsDueBy name.part) (changed entry sent (row_of case.topology run name)).timers
   caused-due sent = caused.timers (IsDueBy name.part) (λ t u tied p q. q) sent (row_of case.topology run name)
       (set-graded name.part cause effects.timers caused-graded caused.outcome.leaves.timers.none
       (caused.outcome.leaves.timers.each ranged in_time)) (graded.timers name)
@@ -141,7 +150,8 @@ module _ (case : CaseShape) (runs : IsRunnable case) where
   entry-near run (Handle seq row id effects) graded may =
       caused-sent_graded case runs run _ row _ effects graded (caused-handle case run seq row id effects row may refl)
   entry-near run (Fire seq row timer mark effects) graded may =
-      caused-sent_graded case runs run _ row _ effects graded (caused-fire case run seq row timer mark effects row may refl)
+      caused-sent_graded case runs run _ row _ effects graded
+      (caused-fire case run seq row timer mark effects row may refl)
   entry-near run _ graded may = tt
 
   -- the timers that an entry leaves in its row
@@ -151,7 +161,8 @@ module _ (case : CaseShape) (runs : IsRunnable case) where
   timers-near run (Handle seq row id effects) sent name graded may here =
       caused-due case runs run _ name _ effects graded (caused-handle case run seq row id effects name may here) sent
   timers-near run (Fire seq row timer mark effects) sent name graded may here =
-      caused-due case runs run _ name _ effects graded (caused-fire case run seq row timer mark effects name may here) sent
+      caused-due case runs run _ name _ effects graded
+      (caused-fire case run seq row timer mark effects name may here) sent
   timers-near run _ sent name graded may here = graded.timers name
 
   -- one more entry keeps it so
@@ -180,7 +191,8 @@ legal-graded case history runs legal = graded-all case runs history legal
 
 -- what waits for a part is below the greatest timestamp
 pub waits-small : (case : CaseShape) (run : Run) (name : RowName) (id : RecordId) (d : Delivery) → IsRunnable case
-    → AreGraded case.topology run → name.part < parts_of case.topology → found_delivery id run.unhandled ≡ Some d → d.to ≡ name
+    → AreGraded case.topology run → name.part < parts_of case.topology → found_delivery id run.unhandled ≡ Some d
+    → d.to ≡ name
     → d.item.stamp < MAX_STAMP
 waits-small case run name id d runs graded there waits to_row =
     let low : d.item.stamp ≤ grade name.part = subst (λ (r : RowName). d.item.stamp ≤ grade r.part) to_row

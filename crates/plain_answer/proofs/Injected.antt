@@ -115,10 +115,12 @@ module _ (case : CaseShape) (part : ℕ) (is : is_injector case.topology part �
       ] refl
   step h (Handle seq row id effects) legal may was =
       let outcome = (caused-handle case (run_of shape h) seq row id effects row may refl).outcome in
-      elsewhere h (Handle seq row id effects) row was refl (injector-apart shape part row.part outcome.kind is outcome.of_part)
+      elsewhere h (Handle seq row id effects) row was refl
+      (injector-apart shape part row.part outcome.kind is outcome.of_part)
   step h (Fire seq row timer mark effects) legal may was =
       let outcome = (caused-fire case (run_of shape h) seq row timer mark effects row may refl).outcome in
-      elsewhere h (Fire seq row timer mark effects) row was refl (injector-apart shape part row.part outcome.kind is outcome.of_part)
+      elsewhere h (Fire seq row timer mark effects) row was refl
+      (injector-apart shape part row.part outcome.kind is outcome.of_part)
   step h (Ack seq row id) legal may was =
       stays h (Ack seq row id) was (added-nothing (Ack seq row id) refl)
       (λ n state. row_of-step shape (run_of shape h) (Ack seq row id) name (λ c. c.state ≡ states.Injector n) state (λ written. state))

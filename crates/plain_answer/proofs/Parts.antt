@@ -94,14 +94,16 @@ abbrev pub IsThere : Shape → Member → Type 0
 IsThere shape o = o.0 < parts_of shape
 
 -- what an entry on a part that is there adds
-added-there : (shape : Shape) (run : Run) (entry : Entry) → IsOnPart shape entry → AllByRecursion (IsThere shape) (added_by run entry)
+added-there : (shape : Shape) (run : Run) (entry : Entry) → IsOnPart shape entry
+    → AllByRecursion (IsThere shape) (added_by run entry)
 added-there shape run entry on = by_row (row_written entry) on
   where
     by_row : (o : Option RowName) → IfSome o (λ (row : RowName). row.part < parts_of shape)
         → AllByRecursion (IsThere shape) (option_map_or
         (λ (row : RowName). map (member_of row.part (late_cause run.made entry)) (productions_of entry)) o [])
     by_row None on = tt
-    by_row (Some row) on = each-map (IsThere shape) (member_of row.part (late_cause run.made entry)) (productions_of entry)
+    by_row (Some row) on =
+        each-map (IsThere shape) (member_of row.part (late_cause run.made entry)) (productions_of entry)
         (each-all (λ (p : Production). row.part < parts_of shape) (λ p. on) (productions_of entry))
 
 -- what is in the streams after each legal history

@@ -46,19 +46,22 @@ items-append (d ∷ ds) other = ap (λ l. d.item ∷ l) (items-append ds other)
 
 -- a pass produces the record again
 pass-productions : (key : List ℕ) (state : State) (item : Record) → has_kind kinds.Pass state ≡ true
-    → (effects_of kinds.Pass key state (OfRecord item)).productions ≡ record { key = item.key; stamp = item.stamp; value = item.value } ∷ []
+    → (effects_of kinds.Pass key state (OfRecord item)).productions
+    ≡ record { key = item.key; stamp = item.stamp; value = item.value } ∷ []
 pass-productions key (states.Pass late) item is = refl
 pass-productions key (states.Injector cursor) item is = absurd cc
 pass-productions key (states.Count late windows) item is = absurd cc
 pass-productions key (states.Spike late held known) item is = absurd cc
 
 -- a pass sets no timer
-pass-timers : (key : List ℕ) (state : State) (item : Record) → (effects_of kinds.Pass key state (OfRecord item)).timers ≡ []
+pass-timers : (key : List ℕ) (state : State) (item : Record)
+    → (effects_of kinds.Pass key state (OfRecord item)).timers ≡ []
 pass-timers key (states.Pass late) item = refl
 pass-timers key state item = refl
 
 -- and produces nothing of one
-pass-nothing : (key : List ℕ) (state : State) (timer : Timer) → (effects_of kinds.Pass key state (OfTimer timer)).productions ≡ []
+pass-nothing : (key : List ℕ) (state : State) (timer : Timer)
+    → (effects_of kinds.Pass key state (OfTimer timer)).productions ≡ []
 pass-nothing key (states.Pass late) timer = refl
 pass-nothing key state timer = refl
 
@@ -87,7 +90,8 @@ module _ (case : CaseShape) (part : ℕ) (kind : kind_of case.topology part ≡ 
         | true ↦ λ e.
             let of = kind-at shape part row.part kinds.Pass kind e in
             let is = of_kind shape row.part kinds.Pass (row_of shape run row).state of ((legal-of_kind case h legal).states row) in
-            let left = kind-left case row (row_of shape run row) (OfRecord d.item) effects kinds.Pass _ of refl may.does in
+            let left = kind-left case row (row_of shape run row) (OfRecord d.item)
+            effects kinds.Pass _ of refl may.does in
             let late = handled-late case h run seq row id effects (legal-ids case h legal) may in
             added-here part run entry row refl e
             ∙ (λ i. map (produced (late i)) ((sym (ap (λ (o : EffectsView). o.productions) left)
@@ -103,7 +107,8 @@ module _ (case : CaseShape) (part : ℕ) (kind : kind_of case.topology part ≡ 
       elim (row.part == part) as (λ b. (row.part == part) ≡ b → out_at part (added_by run entry) ≡ []) [
         | true ↦ λ e.
             let of = kind-at shape part row.part kinds.Pass kind e in
-            let left = kind-left case row (row_of shape run row) (OfTimer timer) effects kinds.Pass _ of refl may.does in
+            let left = kind-left case row (row_of shape run row) (OfTimer timer)
+            effects kinds.Pass _ of refl may.does in
             added-here part run entry row refl e
             ∙ ap (map (produced timer.late)) (sym (ap (λ (o : EffectsView). o.productions) left)
             ∙ pass-nothing row.key (row_of shape run row).state timer)
@@ -143,7 +148,8 @@ module _ (case : CaseShape) (part : ℕ) (kind : kind_of case.topology part ≡ 
       after h (Handle seq row id effects) may was written sent =
           let same : row ≡ name = some_same row name written in
           let of = kind-at shape part row.part kinds.Pass kind (ap (λ (r : RowName). r.part == part) same ∙ here) in
-          let left = kind-left case row (row_of shape (run_of shape h) row) (OfRecord may.delivery.item) effects kinds.Pass _ of refl
+          let left = kind-left case row (row_of shape (run_of shape h) row) (OfRecord may.delivery.item)
+          effects kinds.Pass _ of refl
           may.does in
           (λ i. Rattle.run_history.specs.Runs.with_timers
           ((sym (ap (λ (o : EffectsView). o.timers) left)

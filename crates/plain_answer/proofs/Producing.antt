@@ -46,7 +46,8 @@ module _ (case : CaseShape) (name : RowName) (size : ℕ) (runs : IsRunnable cas
       let long = length-append before (entry ∷ after) in
       let opened = window-open case name size runs kind before apart.0 (omega (arith, few, long)) timer.time in
       let left : count_timer name.key counted.0 ws (window_due ws timer) ≡ effects = kind-left case name
-      (row_of shape (run_of shape before) name) (OfTimer timer) effects (kinds.Count size) (states.Count counted.0 ws) kind counted.1
+      (row_of shape (run_of shape before) name) (OfTimer timer) effects (kinds.Count size)
+      (states.Count counted.0 ws) kind counted.1
       may.does in
       let due : window_due ws timer ≡ open_window size timer.time (deeds_of shape name before) =
       ap (λ n. cond (n == 0) (find (λ (w : Window). w.end == timer.time) ws) None) tag ∙ opened in

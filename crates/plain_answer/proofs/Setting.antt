@@ -13,24 +13,22 @@ use Rattle.mw_types.specs.declared.state.Window.{Window}
 use Rattle.mw_types.specs.declared.record.Record.{Record}
 use Rattle.mw_types.specs.declared.timer.Timer.{Timer}
 use Rattle.mw_types.specs.declared.entry.Entry.{Entry}
-use Rattle.mw_types.specs.declared.entry.Entry.TheVariants.{Claim, Inject, Handle, Fire, Ack, Purge}
+use Rattle.mw_types.specs.declared.entry.Entry.TheVariants.{Handle, Fire, Ack, Purge}
 use Rattle.mw_types.specs.Outcomes.{EffectsView}
 use Rattle.topology.specs.Shapes.{Shape, kind_of}
 use Rattle.row_parts.specs.Contents.{is_timer, without_timer, set_again, found_delivery}
 use Rattle.computations.specs.Handlers.{one_more, unchanged, outcome_with_timer, counted, count_record, window_end, OfRecord}
 use Rattle.run_history.specs.Cases.{CaseShape}
-use Rattle.run_history.specs.Made.{row_written}
 use Rattle.run_history.specs.Runs.{Run, run_of, row_of, followed, with_timers}
-use Rattle.run_history.specs.Legal.{MayHandle, MayFire, MayFollow, IsLegal}
+use Rattle.run_history.specs.Legal.{MayHandle, MayFire, IsLegal}
 use Rattle.run_history.proofs.RunLaws.{run_of-push}
-use Rattle.history_laws.proofs.FeedLaws.{injector-no_kind}
 use Rattle.history_laws.proofs.RowSteps.{on_row_or_not, row_of-here, row_of-elsewhere}
 use Rattle.history_laws.proofs.Caused.{with_timers-each}
-use Rattle.list_lemmas.proofs.Lists.{none_some, some_same, each-weaker}
+use Rattle.list_lemmas.proofs.Lists.{each-weaker}
 use Rattle.list_lemmas.proofs.Places.{each-at}
 use Rattle.plain_answer.specs.Deeds.{Deed, took, fired, after_deed, windows_after, taken, deeds_in, deeds_of}
 use Rattle.plain_answer.proofs.Counting.{count-windows, tie, deeds-apart}
-use Rattle.plain_answer.proofs.Causes.{kind-left}
+use Rattle.plain_answer.proofs.Causes.{kind-left, by_entry}
 use Rattle.plain_answer.proofs.Stories.{deeds-push, along_legal}
 use Rattle.plain_answer.proofs.Timing.{or-either}
 
@@ -164,7 +162,8 @@ module _ (case : CaseShape) (name : RowName) (size : ℕ) (kind : kind_of case.t
       let ts : List Timer = (row_of shape run name).timers in
       let item : Record = may.delivery.item in
       let counts = count-windows case name size kind h legal in
-      let left : count_record size counts.0 ws item ≡ effects = kind-left case name (row_of shape run name) (OfRecord item) effects
+      let left : count_record size counts.0 ws item ≡ effects =
+      kind-left case name (row_of shape run name) (OfRecord item) effects
       (kinds.Count size) (states.Count counts.0 ws) kind counts.1 may.does in
       let takes : deeds_in name run entry ≡ took item.stamp item.late ∷ [] =
       ap (λ b. cond b (taken (found_delivery id run.unhandled)) []) (tie name) ∙ ap taken may.waits in
@@ -194,31 +193,16 @@ module _ (case : CaseShape) (name : RowName) (size : ℕ) (kind : kind_of case.t
       → AreSet (h ++ entry ∷ [])
   same-row h entry was does timers = more h entry [] (row_of shape (run_of shape h) name).timers does timers was
 
-  -- an entry on the row
-  on_row : (h : List Entry) (entry : Entry) → IsLegal case h → MayFollow case (run_of shape h) entry → AreSet h → row_written entry
-      ≡ Some name
-      → AreSet (h ++ entry ∷ [])
-  on_row h (Claim worker interval) legal may was here = absurd (none_some name here)
-  on_row h (Inject seq part line item) legal may was here =
-      let same : part ≡ name.part = ap (λ (r : RowName). r.part) (some_same _ name here) in
-      absurd (injector-no_kind shape part (kinds.Count size) may.injector (ap (kind_of shape) same ∙ kind))
-  on_row h (Handle seq row id effects) legal may was here =
-      let same : name ≡ row = sym (some_same row name here) in
-      subst (λ (r : RowName). MayHandle case (run_of shape h) r id effects → AreSet (h ++ Handle seq r id effects ∷ [])) same
-      (λ m. handles h seq id effects legal m was) may
-  on_row h (Fire seq row timer mark effects) legal may was here =
-      let same : name ≡ row = sym (some_same row name here) in
-      subst (λ (r : RowName). MayFire case (run_of shape h) r timer mark effects → AreSet (h ++ Fire seq r timer mark effects ∷ [])) same
-      (λ m. fires h seq timer mark effects m was) may
-  on_row h (Ack seq row id) legal may was here =
-      same-row h (Ack seq row id) was refl (ap (λ c. c.timers) (row_of-here shape (run_of shape h) (Ack seq row id) name here))
-  on_row h (Purge seq row floor) legal may was here =
-      same-row h (Purge seq row floor) was refl (ap (λ c. c.timers) (row_of-here shape (run_of shape h) (Purge seq row floor) name here))
-
   -- after each legal history
   pub legal-set : (h : List Entry) → IsLegal case h → AreSet h
   legal-set = along_legal case AreSet (λ h entry legal may was. elim (on_row_or_not entry name) [
-    | inl here ↦ on_row h entry legal may was here
+    | inl here ↦ by_entry case (run_of shape h) name (kinds.Count size) (λ e. AreSet (h ++ e ∷ [])) kind
+        (λ seq id effects m. handles h seq id effects legal m was)
+        (λ seq timer mark effects m. fires h seq timer mark effects m was)
+        (λ seq id m. same-row h (Ack seq name id) was refl
+        (ap (λ c. c.timers) (row_of-here shape (run_of shape h) (Ack seq name id) name refl)))
+        (λ seq floor m. same-row h (Purge seq name floor) was refl
+        (ap (λ c. c.timers) (row_of-here shape (run_of shape h) (Purge seq name floor) name refl))) entry may here
     | inr apart ↦ same-row h entry was (deeds-apart name (run_of shape h) entry apart)
         (ap (λ c. c.timers) (row_of-elsewhere shape (run_of shape h) entry name apart))
   ]) tt

@@ -38,7 +38,8 @@ spike-nothing last times key state item = refl
 
 -- and of a timer only under its row's key
 pub spike-key : (last times : ℕ) (key : List ℕ) (state : State) (timer : Timer)
-    → AllByRecursion (λ (p : Production). p.key ≡ key) (effects_of (kinds.Spike last times) key state (OfTimer timer)).productions
+    → AllByRecursion (λ (p : Production). p.key ≡ key)
+    (effects_of (kinds.Spike last times) key state (OfTimer timer)).productions
 spike-key last times key (states.Spike late held known) timer = by_due (total_due held timer)
   where
     by_due : (due : Option HeldTotal) → AllByRecursion (λ (p : Production). p.key ≡ key)

@@ -33,7 +33,6 @@ use Rattle.run_history.specs.Runs.{Run, run_of, row_of, followed, with_timers}
 use Rattle.run_history.specs.Watermarks.{low_watermark}
 use Rattle.run_history.specs.Legal.{MayHandle, MayFire, MayFollow, IsLegal, outcome_of}
 use Rattle.run_history.proofs.RunLaws.{run_of-push}
-use Rattle.history_laws.proofs.FeedLaws.{injector-no_kind}
 use Rattle.history_laws.proofs.IdLaws.{legal-ids}
 use Rattle.history_laws.proofs.LowLaws.{LowFrom, low-from, LowFrom-any_depth, LowFrom-followed}
 use Rattle.history_laws.proofs.PendingLaws.{kind-there}
@@ -48,7 +47,7 @@ use Rattle.plain_answer.proofs.Closing.{same-key, key-itself}
 use Rattle.plain_answer.proofs.Counting.{tie, apart-false}
 use Rattle.plain_answer.proofs.Grading.{legal-graded, waits-small}
 use Rattle.plain_answer.proofs.Members.{out_at, out_at-append, added-here, added-other, computation-apart}
-use Rattle.plain_answer.proofs.Causes.{kind-left, handled-nothing, fired-other}
+use Rattle.plain_answer.proofs.Causes.{kind-left, handled-nothing, fired-other, by_entry}
 use Rattle.plain_answer.proofs.Places.{held_place, held_timer, places-held, place-behind, Climb, AreLow, Climb-held, AreLow-held, timers-held, first-timer, lastly, spikes-push}
 use Rattle.plain_answer.proofs.SpikeSteps.{spike_record_at, spike-nothing, spike-key, fires-first, HoldsMore, holds-more, holds-late, pair_of, pairs_of, placed, placed-push}
 use Rattle.plain_answer.proofs.Stories.{done-push, out-push, along_legal}
@@ -177,7 +176,8 @@ module _ (case : CaseShape) (name : RowName) (last times : ℕ) (runs : IsRunnab
           (states.Spike was.late was.held (lastly last (values was.over))) kind was.state may.does
 
       nothing : own (out_at name.part (added_by (run_of shape h) (Handle seq name id effects))) ≡ []
-      nothing = ap own (handled-nothing case run name.part (kinds.Spike last times) seq name id effects kind (spike-nothing last times) may)
+      nothing = ap own (handled-nothing case run name.part (kinds.Spike last times) seq name id effects kind
+          (spike-nothing last times) may)
 
       pair : (b : Bool) → d.item.late ≡ b → pairs_of name (handled_by run entry) ≡ cond (not b) ((d.item.stamp, d.item.value) ∷ []) []
       pair b is =
@@ -263,9 +263,11 @@ module _ (case : CaseShape) (name : RowName) (last times : ℕ) (runs : IsRunnab
       by_held (t ∷ hs) state timers places climb low =
           let is : held_timer t ≡ timer = some_same (held_timer t) timer (sym (ap (λ l. slice_get l 0) timers) ∙ may.least_timer) in
           let of = fires-first last times name.key was.late t hs (values was.over) climb low in
-          let left = kind-left case name (row_of shape run name) (OfTimer (held_timer t)) effects (kinds.Spike last times)
+          let left = kind-left case name (row_of shape run name) (OfTimer (held_timer t)) effects
+          (kinds.Spike last times)
           (states.Spike was.late (t ∷ hs) (lastly last (values was.over))) kind state
-          (subst (λ (u : Timer). outcome_of case name (row_of shape run name) (OfTimer u) ≡ Some effects) (sym is) may.does) in
+          (subst (λ (u : Timer). outcome_of case name (row_of shape run name) (OfTimer u) ≡ Some effects) (sym is)
+          may.does) in
           let left_state : effects.state ≡ states.Spike was.late hs (lastly last (values was.over ++ t.value ∷ [])) =
           sym (ap (λ (o : EffectsView). o.state) left) ∙ of.state in
           let produces : map (produced timer.late) effects.productions ≡ spike_at last times name.key (values was.over) t.stamp t.value =
@@ -335,6 +337,10 @@ module _ (case : CaseShape) (name : RowName) (last times : ℕ) (runs : IsRunnab
       (ap (λ (c : Contents). c.state) (row_of-elsewhere shape (run_of shape h) entry name apart) ∙ was.state)
       (ap (λ (c : Contents). c.timers) (row_of-elsewhere shape (run_of shape h) entry name apart)) pairs adds fires
 
+  -- an entry that adds nothing
+  adds-none : (run : Run) (entry : Entry) → added_by run entry ≡ [] → own (out_at name.part (added_by run entry)) ≡ []
+  adds-none run entry none = ap (λ l. own (out_at name.part l)) none
+
   -- an entry on another row, or on none
   off_row : (h : List Entry) (entry : Entry) → IsLegal case h → MayFollow case (run_of shape h) entry → IsSpiked h
       → (row_written entry ≡ Some name → ⊥) → IsSpiked (h ++ entry ∷ [])
@@ -348,7 +354,8 @@ module _ (case : CaseShape) (name : RowName) (last times : ℕ) (runs : IsRunnab
       (ap (λ o. pairs_of name (option_to_list o)) may.waits
       ∙ ap (λ b. map pair_of (cond (b && not may.delivery.item.late) (may.delivery ∷ []) []))
       (ap (is_at (row_cmp name)) may.to_row ∙ apart-false name row apart))
-      (ap own (handled-nothing case (run_of shape h) name.part (kinds.Spike last times) seq row id effects kind (spike-nothing last times)
+      (ap own (handled-nothing case (run_of shape h) name.part (kinds.Spike last times) seq row id effects kind
+      (spike-nothing last times)
       may)) refl
   off_row h (Fire seq row timer mark effects) legal may was apart =
       elsewhere h (Fire seq row timer mark effects) legal may was apart refl
@@ -365,38 +372,9 @@ module _ (case : CaseShape) (name : RowName) (last times : ℕ) (runs : IsRunnab
             | true ↦ λ e. ap (λ b. cond b (row.key ∷ []) []) (differs e)
             | false ↦ λ e. refl
           ] refl
-  off_row h (Ack seq row id) legal may was apart = elsewhere h (Ack seq row id) legal may was apart refl (none (Ack seq row id) refl) refl
-    where
-      none : (entry : Entry) → added_by (run_of shape h) entry ≡ [] → own (out_at name.part (added_by (run_of shape h) entry)) ≡ []
-      none entry e = ap (λ l. own (out_at name.part l)) e
+  off_row h (Ack seq row id) legal may was apart =
+      elsewhere h (Ack seq row id) legal may was apart refl (adds-none (run_of shape h) (Ack seq row id) refl) refl
   off_row h (Purge seq row floor) legal may was apart = elsewhere h (Purge seq row floor) legal may was apart refl refl refl
-
-  -- an entry on the row
-  on_row : (h : List Entry) (entry : Entry) → IsLegal case h → MayFollow case (run_of shape h) entry → IsSpiked h
-      → row_written entry ≡ Some name → IsSpiked (h ++ entry ∷ [])
-  on_row h (Claim worker interval) legal may was here = absurd (none_some name here)
-  on_row h (Inject seq part line item) legal may was here =
-      let same : part ≡ name.part = ap (λ (r : RowName). r.part) (some_same _ name here) in
-      absurd (injector-no_kind shape part (kinds.Spike last times) may.injector (ap (kind_of shape) same ∙ kind))
-  on_row h (Handle seq row id effects) legal may was here =
-      let same : name ≡ row = sym (some_same row name here) in
-      subst (λ (r : RowName). MayHandle case (run_of shape h) r id effects → IsSpiked (h ++ Handle seq r id effects ∷ [])) same
-      (λ m. handles h seq id effects legal m was) may
-  on_row h (Fire seq row timer mark effects) legal may was here =
-      let same : name ≡ row = sym (some_same row name here) in
-      subst (λ (r : RowName). MayFire case (run_of shape h) r timer mark effects → IsSpiked (h ++ Fire seq r timer mark effects ∷ [])) same
-      (λ m. fires-here h seq timer mark effects legal m was) may
-  on_row h (Ack seq row id) legal may was here =
-      quiet h (Ack seq row id) was.late was legal may
-      (ap (λ c. c.state) (row_of-here shape (run_of shape h) (Ack seq row id) name here) ∙ was.state)
-      (ap (λ c. c.timers) (row_of-here shape (run_of shape h) (Ack seq row id) name here)) refl (none (Ack seq row id) refl) refl
-    where
-      none : (entry : Entry) → added_by (run_of shape h) entry ≡ [] → own (out_at name.part (added_by (run_of shape h) entry)) ≡ []
-      none entry e = ap (λ l. own (out_at name.part l)) e
-  on_row h (Purge seq row floor) legal may was here =
-      quiet h (Purge seq row floor) was.late was legal may
-      (ap (λ c. c.state) (row_of-here shape (run_of shape h) (Purge seq row floor) name here) ∙ was.state)
-      (ap (λ c. c.timers) (row_of-here shape (run_of shape h) (Purge seq row floor) name here)) refl refl refl
 
   -- nothing is left of nothing
   drop-nil : (k : ℕ) → ◌≡◌ {A = List ℤ} (drop k []) []
@@ -422,6 +400,16 @@ module _ (case : CaseShape) (name : RowName) (last times : ℕ) (runs : IsRunnab
   -- after each legal history
   pub legal-spiked : (h : List Entry) → IsLegal case h → IsSpiked h
   legal-spiked = along_legal case IsSpiked (λ h entry legal may was. elim (on_row_or_not entry name) [
-    | inl here ↦ on_row h entry legal may was here
+    | inl here ↦ by_entry case (run_of shape h) name (kinds.Spike last times) (λ e. IsSpiked (h ++ e ∷ [])) kind
+        (λ seq id effects m. handles h seq id effects legal m was)
+        (λ seq timer mark effects m. fires-here h seq timer mark effects legal m was)
+        (λ seq id m. quiet h (Ack seq name id) was.late was legal m
+        (ap (λ c. c.state) (row_of-here shape (run_of shape h) (Ack seq name id) name refl) ∙ was.state)
+        (ap (λ c. c.timers) (row_of-here shape (run_of shape h) (Ack seq name id) name refl)) refl
+        (adds-none (run_of shape h) (Ack seq name id) refl) refl)
+        (λ seq floor m. quiet h (Purge seq name floor) was.late was legal m
+        (ap (λ c. c.state) (row_of-here shape (run_of shape h) (Purge seq name floor) name refl) ∙ was.state)
+        (ap (λ c. c.timers) (row_of-here shape (run_of shape h) (Purge seq name floor) name refl)) refl refl refl)
+        entry may here
     | inr apart ↦ off_row h entry legal may was apart
   ]) first-spiked

@@ -13,7 +13,7 @@ use Rattle.mw_types.specs.declared.state.Window.{Window}
 use Rattle.mw_types.specs.declared.record.Record.{Record}
 use Rattle.mw_types.specs.declared.timer.Timer.{Timer}
 use Rattle.mw_types.specs.declared.entry.Entry.{Entry}
-use Rattle.mw_types.specs.declared.entry.Entry.TheVariants.{Claim, Inject, Handle, Fire, Ack, Purge}
+use Rattle.mw_types.specs.declared.entry.Entry.TheVariants.{Handle, Fire, Ack, Purge}
 use Rattle.mw_types.specs.Orders.{timer_cmp}
 use Rattle.mw_types.specs.Outcomes.{EffectsView}
 use Rattle.topology.specs.Shapes.{Shape, kind_of}
@@ -21,15 +21,13 @@ use Rattle.row_parts.specs.Contents.{with_timer, without_timer, is_timer, set_ag
 use Rattle.computations.specs.Entering.{entered-recursion}
 use Rattle.computations.specs.Handlers.{one_more, unchanged, outcome_with_timer, counted, count_record, window_end, OfRecord}
 use Rattle.run_history.specs.Cases.{CaseShape}
-use Rattle.run_history.specs.Made.{row_written}
 use Rattle.run_history.specs.Runs.{Run, run_of, row_of, followed, empty_run, with_timers}
 use Rattle.run_history.specs.Legal.{MayHandle, MayFire, MayFollow, IsLegal}
-use Rattle.list_lemmas.proofs.Lists.{none_some, some_same, each-weaker}
+use Rattle.list_lemmas.proofs.Lists.{each-weaker}
 use Rattle.history_laws.proofs.Along.{along_history}
-use Rattle.history_laws.proofs.FeedLaws.{injector-no_kind}
 use Rattle.history_laws.proofs.RowSteps.{on_row_or_not, row_of-here, row_of-elsewhere, both_Equal}
 use Rattle.plain_answer.specs.Deeds.{Deed, took, fired, after_deed, windows_after, taken, deeds_in, Told, told, told_of, deeds_of}
-use Rattle.plain_answer.proofs.Causes.{kind-left}
+use Rattle.plain_answer.proofs.Causes.{kind-left, by_entry}
 use Rattle.plain_answer.proofs.Counting.{IsCounted, step, fresh-counted, tie, deeds-apart}
 
 -- a timer with the tag 0 is set for this time
@@ -181,7 +179,8 @@ module _ (case : CaseShape) (name : RowName) (size : ℕ) (kind : kind_of case.t
       let ts : List Timer = (row_of shape s.run name).timers in
       let item : Record = may.delivery.item in
       let late : ℕ = has.counted.late in
-      let left : count_record size late ws item ≡ effects = kind-left case name (row_of shape s.run name) (OfRecord item) effects
+      let left : count_record size late ws item ≡ effects =
+      kind-left case name (row_of shape s.run name) (OfRecord item) effects
       (kinds.Count size) (states.Count late ws) kind has.counted.is may.does in
       let here : (row_of shape (followed shape s.run entry) name).timers ≡ with_timers effects.timers ts =
       ap (λ c. c.timers) (row_of-here shape s.run entry name refl) in
@@ -207,30 +206,16 @@ module _ (case : CaseShape) (name : RowName) (size : ℕ) (kind : kind_of case.t
       → (row_of shape (followed shape s.run entry) name).timers ≡ (row_of shape s.run name).timers → IsTimed (told shape name s entry)
   same-row s entry has may does timers = more s entry [] (row_of shape s.run name).timers has may does timers has.timed
 
-  -- an entry on the row
-  on_row : (s : Told) (entry : Entry) → IsTimed s → MayFollow case s.run entry → row_written entry ≡ Some name
-      → IsTimed (told shape name s entry)
-  on_row s (Claim worker interval) has may here = absurd (none_some name here)
-  on_row s (Inject seq part line item) has may here =
-      let same : part ≡ name.part = ap (λ (r : RowName). r.part) (some_same _ name here) in
-      absurd (injector-no_kind shape part (kinds.Count size) may.injector (ap (kind_of shape) same ∙ kind))
-  on_row s (Handle seq row id effects) has may here =
-      let same : name ≡ row = sym (some_same row name here) in
-      subst (λ (r : RowName). MayHandle case s.run r id effects → IsTimed (told shape name s (Handle seq r id effects))) same
-      (λ m. handles s seq id effects has m) may
-  on_row s (Fire seq row timer mark effects) has may here =
-      let same : name ≡ row = sym (some_same row name here) in
-      subst (λ (r : RowName). MayFire case s.run r timer mark effects → IsTimed (told shape name s (Fire seq r timer mark effects))) same
-      (λ m. fires s seq timer mark effects has m) may
-  on_row s (Ack seq row id) has may here =
-      same-row s (Ack seq row id) has may refl (ap (λ c. c.timers) (row_of-here shape s.run (Ack seq row id) name here))
-  on_row s (Purge seq row floor) has may here =
-      same-row s (Purge seq row floor) has may refl (ap (λ c. c.timers) (row_of-here shape s.run (Purge seq row floor) name here))
-
   -- any entry
   timed-step : (s : Told) (entry : Entry) → IsTimed s → MayFollow case s.run entry → IsTimed (told shape name s entry)
   timed-step s entry has may = elim (on_row_or_not entry name) [
-    | inl here ↦ on_row s entry has may here
+    | inl here ↦ by_entry case s.run name (kinds.Count size) (λ e. IsTimed (told shape name s e)) kind
+        (λ seq id effects m. handles s seq id effects has m)
+        (λ seq timer mark effects m. fires s seq timer mark effects has m)
+        (λ seq id m. same-row s (Ack seq name id) has m refl
+        (ap (λ c. c.timers) (row_of-here shape s.run (Ack seq name id) name refl)))
+        (λ seq floor m. same-row s (Purge seq name floor) has m refl
+        (ap (λ c. c.timers) (row_of-here shape s.run (Purge seq name floor) name refl))) entry may here
     | inr apart ↦ same-row s entry has may (deeds-apart name s.run entry apart)
         (ap (λ c. c.timers) (row_of-elsewhere shape s.run entry name apart))
   ]

@@ -144,7 +144,8 @@ values-fit (states.Spike late held known) has =
 values-fit (states.Pass late) has = tt
 
 -- the key of a cause is one
-caused-key : (case : CaseShape) (history : List Entry) (entry : Entry) (name : RowName) (cause : Cause) (effects : EffectsView)
+caused-key : (case : CaseShape) (history : List Entry) (entry : Entry) (name : RowName) (cause : Cause)
+    (effects : EffectsView)
     → IsNext case history entry → IsCaused case (run_of case.topology history) entry name cause effects → HasKey cause
 caused-key case history entry name cause effects next caused =
     let run = run_of case.topology history in
@@ -153,15 +154,18 @@ caused-key case history entry name cause effects next caused =
     (recursion_from_All (λ (d : Delivery). IsKey d.item.key) run.made
     (legal-keys case history next.keyed next.legal).records)) in
     of_standing case run name cause (λ (d : Delivery). IsKey d.item.key) (λ (t : Timer). ⊤) HasKey waiting
-    (each-all (λ (t : Timer). ⊤) (λ t. tt) (row_of case.topology run name).timers) (λ d to is. is) (λ t is. tt) caused.stands
+    (each-all (λ (t : Timer). ⊤) (λ t. tt) (row_of case.topology run name).timers) (λ d to is. is) (λ t is. tt)
+    caused.stands
 
 -- what each element of a list is, as a weaker fact of each
 each-as : {X : Type 0} (P Q : X → Type 0) → ((x : X) → P x → Q x) → (xs : List X) → AllByRecursion P xs → All Q xs
 each-as P Q weaker xs each = All-weaker P Q weaker xs (All-from_recursion P xs each)
 
 -- what a cause leaves is within the bounds of an outcome
-caused-outcome : (case : CaseShape) (history : List Entry) (entry : Entry) (name : RowName) (cause : Cause) (effects : EffectsView)
-    → IsNext case history entry → IsCaused case (run_of case.topology history) entry name cause effects → IsOutcome effects
+caused-outcome : (case : CaseShape) (history : List Entry) (entry : Entry) (name : RowName) (cause : Cause)
+    (effects : EffectsView)
+    → IsNext case history entry → IsCaused case (run_of case.topology history) entry name cause effects
+    → IsOutcome effects
 caused-outcome case history entry name cause effects next caused =
     let run = run_of case.topology history in
     let leaves = caused.outcome.leaves in
@@ -172,9 +176,11 @@ caused-outcome case history entry name cause effects next caused =
     let row_key = (written-name case history entry name next caused.written).key in
     let key = caused-key case history entry name cause effects next caused in record {
       kept = record {
-        state_within = subst IsWithin (caused.left (deliveries_of case.topology run.made run.next entry) (row_of case.topology run name))
+        state_within = subst IsWithin
+            (caused.left (deliveries_of case.topology run.made run.next entry) (row_of case.topology run name))
             (left-within case history entry name next caused.written);
-        times = each-as (IsTimerAfter cause) (λ (t : Timer). t.time ≤ MAX_STAMP) (λ t (is : IsTimerAfter cause t). is.in_time) effects.timers
+        times = each-as (IsTimerAfter cause) (λ (t : Timer). t.time ≤ MAX_STAMP)
+            (λ t (is : IsTimerAfter cause t). is.in_time) effects.timers
             (caused-timers case run entry name cause effects in_time caused next.runs);
         stamps = each-as (IsProductionAfter cause) (λ (p : Production). p.stamp ≤ MAX_STAMP)
             (λ p (is : IsProductionAfter cause p). is.in_time) effects.productions
@@ -269,7 +275,8 @@ IsEntry-next case history (Fire seq row timer mark effects) next =
       written-name case history entry row next refl,
       fire-timer case history seq row timer mark effects next,
       omega (arith, under, low),
-      caused-outcome case history entry row _ effects next (caused-fire case run seq row timer mark effects row next.may refl),
+      caused-outcome case history entry row _ effects next
+          (caused-fire case run seq row timer mark effects row next.may refl),
     )
 IsEntry-next case history (Ack seq row id) next =
     let entry = Ack seq row id in

@@ -2,19 +2,18 @@
 use Rattle.std.proofs.Common.{◌≡◌, ℕ, ◌+◌, ◌<◌, ◌^◌, List, [], ◌∷◌, ◌++◌, length, length-append, refl, sym, ap, ap₂, ◌∙◌, subst, arith, append_assoc}
 use Rattle.std.specs.Prelude.{Option, Some, slice_get}
 use Rattle.std.specs.Option.{option_map, option_and_then}
-use Rattle.mw_types.specs.declared.identity.RecordId.{RecordId}
 use Rattle.mw_types.specs.declared.identity.RowName.{RowName}
-use Rattle.mw_types.specs.declared.record.Record.{Record}
 use Rattle.mw_types.specs.declared.timer.Timer.{Timer}
 use Rattle.mw_types.specs.declared.delivery.Delivery.{Delivery}
 use Rattle.mw_types.specs.declared.entry.Entry.{Entry}
 use Rattle.mw_types.specs.declared.entry.Entry.TheVariants.{Claim, Inject, Handle, Fire, Ack, Purge}
+use Rattle.mw_types.specs.Outcomes.{EffectsView}
 use Rattle.injector.specs.Sources.{item_at}
 use Rattle.row_parts.specs.Contents.{found_delivery}
 use Rattle.run_history.specs.Cases.{CaseShape, record_of, source_of}
 use Rattle.run_history.specs.Fences.{IsUnderLastClaim, interval_of, last_claim}
 use Rattle.run_history.specs.Inputs.{IsRunnable}
-use Rattle.computations.specs.Handlers.{OfRecord, OfTimer}
+use Rattle.computations.specs.Handlers.{Cause, OfRecord, OfTimer}
 use Rattle.run_history.specs.Legal.{MayFollow, outcome_of}
 use Rattle.run_history.specs.Runs.{empty_run, row_of, run_of}
 use Rattle.run_history.specs.Watermarks.{cursor_of}
@@ -44,15 +43,10 @@ seq_of case history name = option_and_then (λ (i : ℕ). last_claim i history) 
 abbrev inject_of : CaseShape → ℕ → ℕ → ℕ → Option Entry
 inject_of case part line seq = option_map (Inject seq part line) (option_map record_of (item_at (source_of case part) line))
 
--- what handles a record in a row
-abbrev handle_of : CaseShape → List Entry → RecordId → Record → RowName → Option Entry
-handle_of case history id item row = option_and_then (λ seq. option_map (Handle seq row id)
-    (outcome_of case row (row_of case.topology (run_of case.topology history) row) (OfRecord item))) (seq_of case history row)
-
--- what fires a timer of a row
-abbrev fire_of : CaseShape → List Entry → RowName → ℕ → Timer → Option Entry
-fire_of case history row mark timer = option_and_then (λ seq. option_map (Fire seq row timer mark)
-    (outcome_of case row (row_of case.topology (run_of case.topology history) row) (OfTimer timer))) (seq_of case history row)
+-- what a cause brings about in a row, with what the row's handler leaves of it
+abbrev brought_by : CaseShape → List Entry → RowName → Cause → (ℕ → EffectsView → Entry) → Option Entry
+brought_by case history row cause entry = option_and_then (λ seq. option_map (entry seq)
+    (outcome_of case row (row_of case.topology (run_of case.topology history) row) cause)) (seq_of case history row)
 
 -- the entry that a choice makes
 abbrev entry_for : CaseShape → List Entry → Choice → Option Entry
@@ -61,12 +55,21 @@ entry_for case history (choices.Inject part) =
     option_and_then (inject_of case part (cursor_of case (run_of case.topology history) part))
     (seq_of case history (record { part = part; key = [] }))
 entry_for case history (choices.Handle id) =
-    option_and_then (λ (d : Delivery). handle_of case history id d.item d.to)
+    option_and_then (λ (d : Delivery). brought_by case history d.to (OfRecord d.item) (λ seq. Handle seq d.to id))
     (found_delivery id (run_of case.topology history).unhandled)
-entry_for case history (choices.Fire row mark) = option_and_then (fire_of case history row mark)
+entry_for case history (choices.Fire row mark) =
+    option_and_then (λ timer. brought_by case history row (OfTimer timer) (λ seq. Fire seq row timer mark))
     (slice_get (row_of case.topology (run_of case.topology history) row).timers 0)
 entry_for case history (choices.Ack row id) = option_map (λ seq. Ack seq row id) (seq_of case history row)
 entry_for case history (choices.Purge row floor) = option_map (λ seq. Purge seq row floor) (seq_of case history row)
+
+-- that is the entry with what the handler leaves, under the last claim
+brought_by-left : (case : CaseShape) (history : List Entry) (row : RowName) (cause : Cause)
+    (entry : ℕ → EffectsView → Entry) (seq : ℕ) (effects : EffectsView) → seq_of case history row ≡ Some seq
+    → outcome_of case row (row_of case.topology (run_of case.topology history) row) cause ≡ Some effects
+    → brought_by case history row cause entry ≡ Some (entry seq effects)
+brought_by-left case history row cause entry seq effects under does =
+    λ i. option_and_then (λ s. option_map (entry s) (does i)) (under i)
 
 -- a lawful entry is the one that its choice makes
 entry_for-own : (case : CaseShape) (history : List Entry) (entry : Entry) → MayFollow case (run_of case.topology history) entry
@@ -78,16 +81,16 @@ entry_for-own case history (Inject seq part line item) may under =
     ∙ ap (λ l. inject_of case part l seq) (sym may.next_line)
     ∙ ap (option_map (Inject seq part line)) may.of_line
 entry_for-own case history (Handle seq row id effects) may under =
-    ap (option_and_then (λ (d : Delivery). handle_of case history id d.item d.to)) may.waits
-    ∙ ap (handle_of case history id may.delivery.item) may.to_row
-    ∙ ap (option_and_then (λ s. option_map (Handle s row id)
-    (outcome_of case row (row_of case.topology (run_of case.topology history) row) (OfRecord may.delivery.item)))) (under row refl)
-    ∙ ap (option_map (Handle seq row id)) may.does
+    let item = may.delivery.item in
+    ap (option_and_then (λ (d : Delivery). brought_by case history d.to (OfRecord d.item) (λ s. Handle s d.to id)))
+    may.waits
+    ∙ ap (λ (r : RowName). brought_by case history r (OfRecord item) (λ s. Handle s r id)) may.to_row
+    ∙ brought_by-left case history row (OfRecord item) (λ s. Handle s row id) seq effects (under row refl) may.does
 entry_for-own case history (Fire seq row timer mark effects) may under =
-    ap (option_and_then (fire_of case history row mark)) may.least_timer
-    ∙ ap (option_and_then (λ s. option_map (Fire s row timer mark)
-    (outcome_of case row (row_of case.topology (run_of case.topology history) row) (OfTimer timer)))) (under row refl)
-    ∙ ap (option_map (Fire seq row timer mark)) may.does
+    ap (option_and_then (λ (t : Timer). brought_by case history row (OfTimer t) (λ s. Fire s row t mark)))
+    may.least_timer
+    ∙ brought_by-left case history row (OfTimer timer) (λ s. Fire s row timer mark) seq effects (under row refl)
+    may.does
 entry_for-own case history (Ack seq row id) may under = ap (option_map (λ s. Ack s row id)) (under row refl)
 entry_for-own case history (Purge seq row floor) may under = ap (option_map (λ s. Purge s row floor)) (under row refl)
 

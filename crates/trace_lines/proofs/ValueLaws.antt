@@ -96,19 +96,22 @@ module _ (case : CaseShape) (run : Run) (entry : Entry) (name : RowName) (cause 
     (caused : IsCaused case run entry name cause effects) (are : AreValues run) where
   -- a cause has a value of 64 bits
   pub caused-value : HasValue cause
-  caused-value = of_standing case run name cause (λ (d : Delivery). Fits d.item.value) (λ (t : Timer). t.tag < 2 ^ 64) HasValue
+  caused-value = of_standing case run name cause (λ (d : Delivery). Fits d.item.value)
+      (λ (t : Timer). t.tag < 2 ^ 64) HasValue
       are.waiting (row_of-values case run name are).1 (λ d to is. is) (λ t is. tt) caused.stands
 
   -- the row that it leaves
   caused-row : (sent : List Delivery) (row : Contents) → HasRowValues row → HasRowValues (changed entry sent row)
   caused-row sent row old =
       let leaves = caused.outcome.leaves in (
-        subst HasValues (sym (caused.left sent row)) (leaves.left.values (row_of-values case run name are).0 caused-value),
+        subst HasValues (sym (caused.left sent row))
+            (leaves.left.values (row_of-values case run name are).0 caused-value),
         caused.timers (λ (t : Timer). t.tag < 2 ^ 64) (λ t u same p q. q) sent row leaves.timers.tags old.1,
       )
 
   -- and what it makes
-  caused-made : AllByRecursion (λ (d : Delivery). Fits d.item.value) (deliveries_of case.topology run.made run.next entry)
+  caused-made : AllByRecursion (λ (d : Delivery). Fits d.item.value)
+      (deliveries_of case.topology run.made run.next entry)
   caused-made = caused-sent case run entry name cause effects caused (λ (d : Delivery). Fits d.item.value)
       (made-values case name.part effects.productions (late_cause run.made entry) run.next
       (caused.outcome.leaves.productions.values (row_of-values case run name are).0 caused-value))
@@ -117,7 +120,8 @@ module _ (case : CaseShape) (run : Run) (entry : Entry) (name : RowName) (cause 
 changed-values : (case : CaseShape) (run : Run) (entry : Entry) (sent : List Delivery) (row : Contents) → AreValues run
     → MayFollow case run entry → HasRowValues row → HasRowValues (changed entry sent row)
 changed-values case run (Inject seq part line item) sent row are may old = (advanced-values row.state old.0, old.1)
-changed-values case run (Handle seq name id effects) sent row are may old = caused-row case run (Handle seq name id effects) name _ effects
+changed-values case run (Handle seq name id effects) sent row are may old =
+    caused-row case run (Handle seq name id effects) name _ effects
     (caused-handle case run seq name id effects name may refl) are sent row old
 changed-values case run (Fire seq name timer mark effects) sent row are may old =
     caused-row case run (Fire seq name timer mark effects) name _ effects
@@ -130,9 +134,11 @@ sent-values : (case : CaseShape) (run : Run) (entry : Entry) → AreValued case 
 sent-values case run (Inject seq part line item) valued are may =
     made-values case part (record { key = item.key; stamp = item.stamp; value = item.value } ∷ []) item.late run.next
     (injected-each (λ (r : Record). Fits r.value) case part line item valued may.of_line, tt)
-sent-values case run (Handle seq name id effects) valued are may = caused-made case run (Handle seq name id effects) name _ effects
+sent-values case run (Handle seq name id effects) valued are may =
+    caused-made case run (Handle seq name id effects) name _ effects
     (caused-handle case run seq name id effects name may refl) are
-sent-values case run (Fire seq name timer mark effects) valued are may = caused-made case run (Fire seq name timer mark effects) name _ effects
+sent-values case run (Fire seq name timer mark effects) valued are may =
+    caused-made case run (Fire seq name timer mark effects) name _ effects
     (caused-fire case run seq name timer mark effects name may refl) are
 sent-values case run _ valued are may = tt
 
