@@ -6,10 +6,7 @@ use Rattle.std.proofs.lemmas.List.Elements.{All-get_or}
 use Rattle.std.proofs.lemmas.Option.{get_or_from_slice_get}
 use Rattle.std.proofs.Math.Seq.{map-set_same}
 use Rattle.mw_types.specs.declared.entry.Entry.{Entry}
-use Rattle.mw_types.specs.Outcomes.{EffectsView}
-use Rattle.mw_types.specs.declared.record.Record.{Record}
-use Rattle.mw_types.specs.declared.state.State.{State}
-use Rattle.mw_types.specs.declared.timer.Timer.{Timer}
+use Rattle.computations.specs.Laws.{Doings}
 use Rattle.run_history.specs.Cases.{CaseShape}
 use Rattle.book.specs.Books.{BookView}
 use Rattle.book.specs.declared.own_desk.NoNote.{NoNote}
@@ -129,8 +126,5 @@ stands-at state book number was node is at called =
     (flying-more state.book book (flight_of state.flight) (more-grown was.held state.book book called.grown) is.flying) is.few is.on_way
 
 -- the computations are still those of the case
-pub work-moved : {has : ℕ → State → Type 0} {record_by : ℕ → List ℕ → State → Record → EffectsView}
-    {timer_by : ℕ → List ℕ → State → Timer → EffectsView} (old new : CaseShape) → new ≡ old
-    → IsWorkOf old.topology has record_by timer_by → IsWorkOf new.topology has record_by timer_by
-work-moved {has = has} {record_by = record_by} {timer_by = timer_by} old new same work =
-    subst (λ (k : CaseShape). IsWorkOf k.topology has record_by timer_by) (sym same) work
+pub work-moved : {does : Doings} (old new : CaseShape) → new ≡ old → IsWorkOf old.topology does → IsWorkOf new.topology does
+work-moved {does = does} old new same work = subst (λ (k : CaseShape). IsWorkOf k.topology does) (sym same) work
