@@ -11,7 +11,7 @@ use Rattle.command_line.specs.Grammar.{command_of}
 abbrev pub keep_of : List (List ℕ) → Option (List ℕ)
 keep_of words = option_and_then (λ (command : Command). command.keep) (command_of words)
 
--- whether a call asks for workers that are threads
+-- whether a call asks for rounds of workers
 abbrev pub is_run : Call → Bool
 is_run (Run workers rounds plan inputs) = true
 is_run _ = false

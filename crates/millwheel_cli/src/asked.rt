@@ -34,7 +34,7 @@ pub fn read_alone(alloc: Global, words: &[Name]) -> Result<Command, WordsRefusal
     Ok(command)
 }
 
-// Whether a call asks for workers that are threads.
+// Whether a call asks for rounds of workers.
 fn is_run(call: &Call) -> bool
     ensures { result ≡ is_run call.now }
 {

@@ -26,7 +26,7 @@ use task_runs::{Done, Status, unbegun};
 ///
 /// The topology, then the plan, where there is one, and then the event files, one an injector, are
 /// read and tried one after the other. Then what comes before the drain is done over the keeper, which must
-/// have no rows: the steps of a plan, or in the mode run rounds of workers that are threads, which pass the
+/// have no rows: the steps of a plan, or in the mode run rounds of workers in two threads, which pass the
 /// gate. All that is left is worked off by the caller's own thread, and then the text is written, or with
 /// `--live` each result as soon as its entry is there. In the mode plain the files are counted at once, and in
 /// the mode collect the live lines of one file are written, each once; both hand the keeper back as it was. A

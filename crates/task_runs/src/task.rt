@@ -36,7 +36,7 @@ pub enum Before {
         /// The steps.
         steps: Schedule,
     },
-    /// Rounds of work, which workers that are threads do.
+    /// Rounds of work, which workers in two threads do.
     Rounds {
         /// How many workers there are: 1 to 16.
         workers: u32,

@@ -1,4 +1,4 @@
-//! Workers that are threads: their mailboxes, what a worker does in its turn of work at the desk of a book
+//! Workers in two threads: their mailboxes, what a worker does in its turn of work at the desk of a book
 //! that threads share, and the rounds of turns that several do at once.
 //!
 //! A mailbox is a queue with room for so many messages, into which threads put and from which they take,

@@ -1,6 +1,6 @@
 //! A worker over the desk of a book of its own, over desks of a shared book, and two over the desks of
 //! two seats: the same answers at each desk, a worker that another has overtaken, and a keeper that fails under a
-//! worker's turn. And what workers that are threads stand on: a mailbox with one place, and plans that are read.
+//! worker's turn. And what workers in threads stand on: a mailbox with one place, and plans that are read.
 mod acts;
 mod busy;
 mod closing;
