@@ -30,6 +30,8 @@ use Rattle.book.specs.Proposals.{IsEntryOf}
 use Rattle.book.specs.declared.desk_refusal.DeskRefusal.{DeskRefusal}
 use Rattle.book.specs.declared.desk_refusal.DeskRefusal.TheVariants as refusals
 use Rattle.book.specs.declared.proposal.Proposal.{Proposal}
+use Rattle.book.specs.declared.writing.Writing.{Writing}
+use Rattle.book.specs.declared.writing.Writing.TheVariants as writings
 use Rattle.holdings.specs.Holding.{HeldView, held_at, held_on, row_held}
 use Rattle.node.specs.Answers.{refusal_of}
 use Rattle.node.specs.Asking.{Request}
@@ -159,6 +161,12 @@ pub record HasProposed (old new : BookView) (seq : ℕ) (name : RowName) (propos
   pub entry : Entry
   pub of_proposal : IsEntryOf old.case seq name proposal entry
   pub stepped : HasStepped old new (Some entry)
+
+-- this was written of a row, under this sequencer: its entry was appended
+abbrev pub HasPutOwn : BookView → BookView → ℕ → RowName → Writing → Type 0
+HasPutOwn old new seq name (writings.Propose proposal) = HasProposed old new seq name proposal.now
+HasPutOwn old new seq name (writings.Settle id) = HasStepped old new (Some (entries.Ack seq name id))
+HasPutOwn old new seq name (writings.Purge floor) = HasStepped old new (Some (entries.Purge seq name floor))
 
 -- no drain has ended at a history
 abbrev pub IsUnended : CaseShape → List Entry → Type 0
