@@ -1,19 +1,15 @@
 //! Timers that fire.
-ghost use Rattle.std.specs.Prelude.{◌≡◌, ◌<◌, ◌≤◌, ◌^◌, ℕ, All, IfErr, IfOk, None, OnErr, OnOk, Some, length, map};
+ghost use Rattle.std.specs.Prelude.{◌≡◌, ◌<◌, IfErr, IfOk, None, OnErr, Some, length};
 ghost use Rattle.std.specs.Ordering.{is_lt};
 ghost use Rattle.run_history.specs.Cases.{intervals_of};
 ghost use Rattle.book.specs.Desking.{IsDueKnown};
 ghost use Rattle.book.specs.Desks.{HasLooked, KeepsMarks};
-ghost use Rattle.book.specs.declared.proposal.Proposal.TheVariants as proposals;
 ghost use Rattle.node.specs.Answers.{AnswersFire, AnswersSome, FailsFire, FailsSome, HasGrown, HasKept};
 ghost use Rattle.node.specs.Fits.{Fits};
 ghost use Rattle.holdings.specs.Timers.{due_cmp, pair_of};
-ghost use Rattle.topology.specs.Shapes.{parts_of};
 ghost use Rattle.node.specs.Asking.{IsNextTimer, MayAskFire};
 ghost use Rattle.node.specs.FireSteps.{AreAllWithin, IsFirstIn, IsLeftByHandler, IsLeastTimerBelow, IsSetAt, IsTimerToFire, due_under, earlier_timer, lesser_timer};
-ghost use Rattle.outbox.specs.Messages.{IsAddressed, IsComputation};
-ghost use Rattle.outbox.specs.Outboxes.{numbered};
-ghost use Rattle.outbox.specs.WorkSteps.{handler_sends};
+ghost use Rattle.outbox.specs.Messages.{IsComputation};
 ghost use Rattle.node.specs.Workers.{NodeView};
 ghost use Rattle.node.specs.Works.{IsWorkOf};
 
@@ -25,7 +21,7 @@ use book::{Desk, Proposal, Seen, Writing};
 use computations::Computation;
 use holdings::{Holdings, RowTimer};
 use mw_types::{Effects, NoMemory};
-use outbox::{Outgoing, made_by};
+use outbox::made_by;
 use run_history::Case;
 use std::alloc::Global;
 
@@ -131,47 +127,25 @@ impl<N: Seen> Node<N> {
         desk.sound();
         let interval = case.interval_of(&found.name);
         let effects = effects_of(&self.held, alloc, case, work, interval, found)?;
-        let (proposal, made) = fire_of(alloc, case, found, mark, effects)?;
+        let timer = found.timer;
+        let made = match made_by(alloc, case, &found.name, &effects, timer.late) {
+            Ok(made) => made,
+            Err(NoMemory) => {
+                drop(effects);
+                return Err(NodeFault::NoMemory);
+            }
+        };
+        let proposal = Proposal::Fire {
+            timer,
+            mark,
+            effects,
+        };
         let writing = Writing::Propose {
             proposal: &proposal,
         };
         let fired = self.put_on(alloc, desk, case, interval, &found.name, writing, made);
         drop(proposal);
         fired
-    }
-}
-
-// What is proposed where a timer fires, and what its handler's productions become.
-fn fire_of(
-    alloc: Global,
-    case: &Case,
-    found: &RowTimer,
-    mark: u64,
-    effects: Effects,
-) -> Result<(Proposal, Vec<Outgoing>), NoMemory>
-    requires part { found.now.name.part < parts_of case.now.topology }
-    requires few { length effects.productions ≤ 8 }
-    ensures fire { IfOk result (λ fire. fire.0 ≡ proposals.Fire found.now.timer mark effects) }
-    ensures made { IfOk result (λ fire. (commit : ℕ) → map (numbered commit) fire.1.items
-        ≡ handler_sends case.now.topology found.now.name effects found.now.timer.late commit) }
-    ensures addressed { OnOk result ((commit : ℕ) → commit < 2 ^ 32 →
-        All (IsAddressed case.now.topology)
-        (handler_sends case.now.topology found.now.name effects found.now.timer.late commit)) }
-{
-    let timer = found.timer;
-    match made_by(alloc, case, &found.name, &effects, timer.late) {
-        Ok(made) => {
-            let proposal = Proposal::Fire {
-                timer,
-                mark,
-                effects,
-            };
-            Ok((proposal, made))
-        }
-        Err(NoMemory) => {
-            drop(effects);
-            Err(NoMemory)
-        }
     }
 }
 
