@@ -1,6 +1,6 @@
 -- What one write on a row that a node holds leaves of the node, and what a call answers that asked for it.
 use Rattle.std.proofs.Common.{◌≡◌, ◌∙◌, ℕ, List, [], ◌++◌, map, refl, sym, ap, subst, inl, inr, append-nil}
-use Rattle.std.specs.Prelude.{IfErr, IfOk, IfSome, Option, Some, Result, Ok}
+use Rattle.std.specs.Prelude.{IfErr, IfOk, IfSome, Option, Some, Result}
 use Rattle.mw_types.specs.declared.identity.RowName.{RowName}
 use Rattle.topology.specs.Shapes.{Shape}
 use Rattle.run_history.specs.Cases.{CaseShape}

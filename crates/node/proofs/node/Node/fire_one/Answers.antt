@@ -1,12 +1,10 @@
-use Rattle.std.proofs.Common.{◌≡◌, ◌++◌, ℕ, List, map, subst, sym, refl}
+use Rattle.std.proofs.Common.{◌++◌, List, subst, sym, refl}
 use Rattle.std.specs.Prelude.{IsSome, Option}
 use Rattle.computations.specs.Handlers.{OfTimer}
 use Rattle.history_laws.proofs.Caused.{IsOutcome-does}
 use Rattle.book.specs.declared.proposal.Proposal.TheVariants as proposals
 use Rattle.holdings.specs.Holding.{HeldView, held_at}
 use Rattle.holdings.proofs.HeldRows.{proposed-put}
-use Rattle.outbox.specs.Outboxes.{numbered}
-use Rattle.outbox.specs.WorkSteps.{handler_sends}
 use Rattle.outbox.specs.declared.outgoing.Outgoing.{Outgoing}
 use Rattle.node.specs.Answers.{AnswersSome, AnswersWrite, FailsSome}
 use Rattle.node.specs.Asking.{MayAskFire}

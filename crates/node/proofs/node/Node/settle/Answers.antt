@@ -1,9 +1,8 @@
-use Rattle.std.proofs.Common.{rules, ◌≡◌, ◌∙◌, ap, subst, sym, refl, true}
-use Rattle.std.specs.Prelude.{IfSome, IsSome, Option, Some}
+use Rattle.std.proofs.Common.{rules, ◌≡◌, ◌∙◌, ap, subst, sym, true}
+use Rattle.std.specs.Prelude.{Some}
 use Rattle.std.specs.Option.{is_some}
 use Rattle.list_lemmas.proofs.Lists.{some_same}
 use Rattle.row_parts.specs.Contents.{found_delivery}
-use Rattle.book.specs.Conditions.{MaySettle}
 use Rattle.holdings.specs.Holding.{HeldView, held_at, held_on, row_held}
 use Rattle.node.specs.Answers.{AnswersAck, FailsAsked}
 use Rattle.node.specs.Asking.{settle_asked}
