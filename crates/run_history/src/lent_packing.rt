@@ -6,7 +6,7 @@ ghost use Rattle.run_history.specs.Packing.{HasNumbers, IsNext, IsPacked, KeepsD
 use crate::details::Details;
 use crate::entry_ref::EntryRef;
 use crate::packed::{Numbers, Packed};
-use mw_types::NoMemory;
+use mw_types::{Duplicate, NoMemory};
 use std::alloc::Global;
 
 impl Details {
