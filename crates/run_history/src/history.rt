@@ -115,11 +115,7 @@ impl History {
 }
 
 // Appends an entry whose details are the last, which are taken away where memory ran out.
-fn append(
-    details: &mut Details,
-    entries: &mut Seq<Packed>,
-    packed: Packed,
-) -> Result<(), NoMemory>
+fn append(details: &mut Details, entries: &mut Seq<Packed>, packed: Packed) -> Result<(), NoMemory>
     requires name { HasName details.old.names packed }
     requires last { IsLast (counts_of details.old) packed }
     ensures appended { OnOk result (entries.new ≡ entries.old ++ packed ∷ []) }

@@ -48,7 +48,10 @@ impl Details {
         match *entry {
             EntryRef::Claim { worker, interval } => Ok(Packed::Claim { worker, interval }),
             EntryRef::Inject {
-                part, line, item, ..
+                part,
+                line,
+                item,
+                ..
             } => self.pack_inject(seq, part, line, item.copy(alloc)?),
             EntryRef::Handle { id, effects, .. } => {
                 self.pack_handle(numbers, id.index, effects.copy(alloc)?)
