@@ -12,7 +12,6 @@ ghost use Rattle.audit.specs.Keeping.{IsFollowed, IsKept};
 ghost use Rattle.audit.specs.Lows.{fed_mark, low_after, lows_of};
 
 use crate::finding::{cursor, sequencer};
-use crate::injecting::injector_row;
 use crate::kept::Kept;
 use computations::Kinds;
 use mw_types::{Duplicate, END, Entry, NoMemory, RowName, Timer};
@@ -195,7 +194,7 @@ fn stated(alloc: Global, case: &Case, history: &History, kept: &Kept, part: u32)
     requires injector { part < injectors_of case.now.topology }
     ensures { result ≡ source_mark case.now (run_of case.now.topology history.now) part }
 {
-    let name = injector_row(alloc, part);
+    let name = Case::injector_row(alloc, part);
     let line = cursor(case, &kept.rows, &name);
     case.items.as_slice()[part as usize].stated(line)
 }

@@ -1,14 +1,12 @@
 //! Lines that injectors inject.
-ghost use Rattle.std.specs.Prelude.{◌≡◌, ◌<◌, IfOk, length};
-ghost use Rattle.topology.specs.Shapes.{injectors_of};
-ghost use Rattle.run_history.specs.Cases.{source_of};
+ghost use Rattle.std.specs.Prelude.{◌≡◌, ◌<◌, IfOk};
 ghost use Rattle.trace_lines.specs.declared.choice.Choice.TheVariants as choices;
 ghost use Rattle.audit.specs.Choices.{IsChosen};
-ghost use Rattle.audit.specs.Keeping.{IsFollowed, IsKept, injector_name};
+ghost use Rattle.audit.specs.Keeping.{IsFollowed, IsKept};
 
 use crate::finding::{cursor, sequencer};
 use crate::kept::Kept;
-use mw_types::{Entry, Key, NoMemory, RowName};
+use mw_types::{Entry, NoMemory};
 use run_history::{Case, History};
 use std::alloc::Global;
 
@@ -27,9 +25,9 @@ pub(crate) fn injection_of(
     if part >= case.topology.injectors() {
         return Ok(None);
     }
-    let name = injector_row(alloc, part);
+    let name = Case::injector_row(alloc, part);
     let line = cursor(case, &kept.rows, &name);
-    if line >= lines_of(case, part) {
+    if line >= case.lines(part) {
         return Ok(None);
     }
     match sequencer(case, &kept.claims, &name) {
@@ -44,22 +42,4 @@ pub(crate) fn injection_of(
         }
         None => Ok(None),
     }
-}
-
-// The name of an injector's row.
-pub(crate) fn injector_row(alloc: Global, part: u32) -> RowName
-    ensures { result ≡ injector_name part }
-{
-    RowName {
-        part,
-        key: Key::none(alloc),
-    }
-}
-
-// How many lines an injector has.
-fn lines_of(case: &Case, part: u32) -> u32
-    requires { part < injectors_of case.now.topology }
-    ensures { result ≡ length (source_of case.now part) }
-{
-    case.items.as_slice()[part as usize].count()
 }

@@ -10,7 +10,6 @@ ghost use Rattle.audit.specs.Choices.{MayCome};
 ghost use Rattle.audit.specs.Keeping.{IsFollowed, IsKept, IsLeftBy, IsLeftOf, IsRowOfStep, injector_name};
 ghost use Rattle.audit.specs.Waits.{waiting_in};
 
-use crate::injecting::injector_row;
 use crate::kept::{Kept, Rows};
 use book::{NamedRow, Proposal, Step, purged, settled, step_of};
 use mw_types::{Delivery, Duplicate, Effects, Entry, NoMemory, RecordId, RowName, Timer};
@@ -134,7 +133,7 @@ fn row_injected(
     ensures { IfOk result (IsLeftBy case.now seq (injector_name part) (proposals.Inject line) commit
         (row_of case.now.topology (cached rows.now.entries) (injector_name part))) }
 {
-    let name = injector_row(alloc, part);
+    let name = Case::injector_row(alloc, part);
     let proposal = Proposal::Inject { line };
     row_after(alloc, case, rows, seq, name, &proposal, commit)
 }

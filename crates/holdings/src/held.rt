@@ -2,7 +2,10 @@
 ghost use Rattle.std.specs.Prelude.{◌≡◌, ◌<◌, IfErr, IfOk, IfSome, IsSome, OnErr, OnOk, option_copied};
 ghost use Rattle.std.specs.List.Sorted.{IsStrictlySortedBy};
 ghost use Rattle.std.specs.Map.{keys_of};
+ghost use Rattle.std.specs.Option.{is_some};
 ghost use Rattle.mw_types.specs.Orders.{row_cmp};
+ghost use Rattle.topology.specs.Shapes.{Shape};
+ghost use Rattle.row_parts.specs.Contents.{cursor_in, found_delivery};
 ghost use Rattle.run_history.specs.Runs.{cached, row_in};
 ghost use Rattle.book.specs.Answers.{answer_of};
 ghost use Rattle.book.specs.Desking.{IsRowKnown, MayAsk};
@@ -19,7 +22,7 @@ use crate::first_timer::RowTimer;
 use crate::indexed::Indexed;
 use crate::pending::SentList;
 use book::{Desk, DeskRefusal, Lease, Writing};
-use mw_types::{Duplicate, NoMemory, RowName};
+use mw_types::{Duplicate, NoMemory, RecordId, RowName};
 use row_parts::Row;
 use run_history::{Case, first_row};
 use std::alloc::Global;
@@ -53,6 +56,28 @@ impl Held {
         ensures row { option_copied result ≡ row_in (cached self.now.rows) name.now }
     {
         self.rows.get(name)
+    }
+
+    /// How many lines an injector has injected, by its row of this name: the next line.
+    pub fn cursor(&self, name: &RowName) -> u32
+        ensures cursor { (shape : Shape) →
+            result ≡ cursor_in (row_held shape self.now name.now).state }
+    {
+        match self.row(name) {
+            Some(row) => row.cursor(),
+            None => 0,
+        }
+    }
+
+    /// Whether the row of this name waits to learn that the record of an id was handled.
+    pub fn is_pending(&self, name: &RowName, id: RecordId) -> bool
+        ensures pending { (shape : Shape) →
+            result ≡ is_some (found_delivery id (row_held shape self.now name.now).pending) }
+    {
+        match self.row(name) {
+            Some(row) => row.is_pending(id),
+            None => false,
+        }
     }
 
     // The first timer of all rows, with the name of its row, or none where no row has a timer.

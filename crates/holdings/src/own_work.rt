@@ -15,7 +15,7 @@ ghost use Rattle.holdings.specs.Steps.{IsOldest};
 use crate::held::Held;
 use crate::holdings::Holdings;
 use book::Desk;
-use mw_types::{END, Key, NoMemory, RowName};
+use mw_types::{END, NoMemory};
 use run_history::Case;
 use std::alloc::Global;
 
@@ -24,16 +24,10 @@ impl Held {
     fn stated(&self, alloc: Global, case: &Case, part: u32) -> u64
         ensures { result ≡ source_mark case.now (cached self.now.rows) part }
     {
-        let name = RowName {
-            part,
-            key: Key::none(alloc),
-        };
-        let cursor = match self.row(&name) {
-            Some(row) => row.cursor(),
-            None => 0,
-        };
+        let name = Case::injector_row(alloc, part);
+        let line = self.cursor(&name);
         match case.items.get(part as usize) {
-            Some(items) => items.stated(cursor),
+            Some(items) => items.stated(line),
             None => END,
         }
     }

@@ -1,143 +1,24 @@
 //! Writes on rows of intervals that are held.
-ghost use Rattle.std.specs.Prelude.{◌≡◌, ◌<◌, [], IfErr, IfOk, IfSome, IsSome, OnErr, Some};
-ghost use Rattle.mw_types.specs.declared.entry.Entry.TheVariants.{Ack, Purge};
+ghost use Rattle.std.specs.Prelude.{◌≡◌, ◌<◌, IfErr, IfOk, IfSome, IsSome, OnErr, Some};
 ghost use Rattle.topology.specs.Shapes.{parts_of};
 ghost use Rattle.run_history.specs.Fences.{interval_of};
-ghost use Rattle.run_history.specs.Runs.{cached, row_in, written_row};
+ghost use Rattle.run_history.specs.Runs.{cached, row_in};
 ghost use Rattle.book.specs.Answers.{answer_of};
-ghost use Rattle.book.specs.Conditions.{MaySettle};
-ghost use Rattle.book.specs.Desking.{HasStored, HasWritten, IsKnownOf, IsPurgeKnown, IsRowKnown, MayAsk};
+ghost use Rattle.book.specs.Desking.{IsRowKnown, MayAsk};
 ghost use Rattle.book.specs.DeskReasons.{HasReason};
 ghost use Rattle.book.specs.Desks.{HasLooked, KeepsMarks};
-ghost use Rattle.book.specs.Proposals.{IsProposable};
 ghost use Rattle.book.specs.Writings.{HasPut, MayPut};
 ghost use Rattle.holdings.specs.Holding.{AreAllHeld, HoldsEntry, IsRefusedOf, KeepsHeld, held_at, row_held};
 ghost use Rattle.holdings.specs.Writing.{IsRewrittenAt};
 
 use crate::held::Held;
 use crate::holdings::Holdings;
-use book::{Desk, DeskRefusal, Proposal, Writing};
-use mw_types::{RecordId, RowName};
+use book::{Desk, DeskRefusal, Writing};
+use mw_types::RowName;
 use run_history::Case;
 use std::alloc::Global;
 
 impl Holdings {
-    /// Writes a row anew: an injector's next line is injected, a record was handled, or a timer
-    /// fired. Answers the commit number of the entry.
-    pub fn write<D: Desk>(
-        &mut self,
-        alloc: Global,
-        desk: &mut D,
-        case: &Case,
-        interval: u32,
-        name: &RowName,
-        proposal: &Proposal,
-    ) -> Result<u64, DeskRefusal>
-        requires case { (D.view desk.old).case ≡ case.now }
-        requires fits { AreAllHeld case.now (D.view desk.old) self.old }
-        requires covers { interval_of case.now.topology name.now ≡ Some interval }
-        requires part { name.now.part < parts_of case.now.topology }
-        requires there { IsSome (held_at self.old interval) }
-        requires proposal { IfSome (held_at self.old interval) (λ held. IsProposable case.now
-            name.now (row_held case.now.topology held name.now) proposal.now) }
-        requires known { IsKnownOf (D.view desk.old) name.now proposal.now }
-
-        ensures fits { AreAllHeld case.now (D.view desk.new) self.new }
-        ensures written { IfOk result (λ commit.
-            HoldsEntry case.now.topology interval name.now commit
-            (λ lease row answer. HasWritten (D.view desk.old) (D.view desk.new) lease name.now
-            proposal.now row answer) self.old self.new) }
-
-        ensures kept { OnErr result (KeepsHeld case.now.topology self.old self.new) }
-        ensures looked { OnErr result (HasLooked (D.view desk.old) (D.view desk.new)) }
-        ensures reason { IfErr result
-            (IsRefusedOf (D.view desk.old) (D.view desk.new) self.old interval) }
-        ensures marks { KeepsMarks (D.view desk.old) (D.view desk.new) }
-        ensures loan { D.loan desk.new ≡ D.loan desk.old }
-        ensures home { D.home desk.new ≡ D.home desk.old }
-    {
-        let writing = Writing::Propose { proposal };
-        self.put(alloc, desk, case, interval, name, writing)
-    }
-
-    /// A sender learns that what it made was handled: the row no longer waits for the id. Answers
-    /// the commit number of the entry.
-    pub fn settle<D: Desk>(
-        &mut self,
-        alloc: Global,
-        desk: &mut D,
-        case: &Case,
-        interval: u32,
-        name: &RowName,
-        id: RecordId,
-    ) -> Result<u64, DeskRefusal>
-        requires case { (D.view desk.old).case ≡ case.now }
-        requires fits { AreAllHeld case.now (D.view desk.old) self.old }
-        requires covers { interval_of case.now.topology name.now ≡ Some interval }
-        requires part { name.now.part < parts_of case.now.topology }
-        requires there { IsSome (held_at self.old interval) }
-        requires id { IfSome (held_at self.old interval) (λ held. MaySettle (D.view desk.old).told
-            (D.view desk.old).seen (row_held case.now.topology held name.now) id) }
-
-        ensures fits { AreAllHeld case.now (D.view desk.new) self.new }
-        ensures settled { IfOk result (λ commit.
-            HoldsEntry case.now.topology interval name.now commit
-            (λ lease row answer. HasStored (D.view desk.old) (D.view desk.new) lease name.now
-            (Ack lease.seq name.now id) row
-            (λ number. written_row number (Ack lease.seq name.now id) [] row) answer)
-            self.old self.new) }
-
-        ensures kept { OnErr result (KeepsHeld case.now.topology self.old self.new) }
-        ensures looked { OnErr result (HasLooked (D.view desk.old) (D.view desk.new)) }
-        ensures reason { IfErr result
-            (IsRefusedOf (D.view desk.old) (D.view desk.new) self.old interval) }
-        ensures marks { KeepsMarks (D.view desk.old) (D.view desk.new) }
-        ensures loan { D.loan desk.new ≡ D.loan desk.old }
-        ensures home { D.home desk.new ≡ D.home desk.old }
-    {
-        let writing = Writing::Settle { id };
-        self.put(alloc, desk, case, interval, name, writing)
-    }
-
-    /// A row forgets the ids of records that are finished: those below the floor. Answers the
-    /// commit number of the entry.
-    pub fn purge<D: Desk>(
-        &mut self,
-        alloc: Global,
-        desk: &mut D,
-        case: &Case,
-        interval: u32,
-        name: &RowName,
-        floor: u64,
-    ) -> Result<u64, DeskRefusal>
-        requires case { (D.view desk.old).case ≡ case.now }
-        requires fits { AreAllHeld case.now (D.view desk.old) self.old }
-        requires covers { interval_of case.now.topology name.now ≡ Some interval }
-        requires part { name.now.part < parts_of case.now.topology }
-        requires there { IsSome (held_at self.old interval) }
-        requires floor { IfSome (held_at self.old interval) (λ held. IsPurgeKnown (D.view desk.old)
-            name.now (row_held case.now.topology held name.now) floor) }
-
-        ensures fits { AreAllHeld case.now (D.view desk.new) self.new }
-        ensures purged { IfOk result (λ commit.
-            HoldsEntry case.now.topology interval name.now commit
-            (λ lease row answer. HasStored (D.view desk.old) (D.view desk.new) lease name.now
-            (Purge lease.seq name.now floor) row
-            (λ number. written_row number (Purge lease.seq name.now floor) [] row) answer)
-            self.old self.new) }
-
-        ensures kept { OnErr result (KeepsHeld case.now.topology self.old self.new) }
-        ensures looked { OnErr result (HasLooked (D.view desk.old) (D.view desk.new)) }
-        ensures reason { IfErr result
-            (IsRefusedOf (D.view desk.old) (D.view desk.new) self.old interval) }
-        ensures marks { KeepsMarks (D.view desk.old) (D.view desk.new) }
-        ensures loan { D.loan desk.new ≡ D.loan desk.old }
-        ensures home { D.home desk.new ≡ D.home desk.old }
-    {
-        let writing = Writing::Purge { floor };
-        self.put(alloc, desk, case, interval, name, writing)
-    }
-
     /// Writes into a row: appends one entry, and what the entry leaves of the row is held. Answers the
     /// commit number of the entry.
     #[tactic(auto, using(crate::proofs::HeldSteps::unasked))]

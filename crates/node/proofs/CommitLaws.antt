@@ -26,7 +26,7 @@ use Rattle.run_history.specs.Runs.{run_of}
 use Rattle.history_laws.proofs.IdLaws.{same_id-itself}
 use Rattle.history_laws.proofs.SeenLaws.{found-more}
 use Rattle.book.specs.Books.{LeaseView}
-use Rattle.book.specs.Desking.{IsKnownOf}
+use Rattle.book.specs.Desking.{HasWritten, IsKnownOf}
 use Rattle.book.specs.Desks.{DeskView, HasMoved, IsSound}
 use Rattle.book.specs.Proposals.{IsEntryOf, IsProposable}
 use Rattle.book.specs.declared.answers.Written.{Written}
@@ -38,7 +38,6 @@ use Rattle.node.specs.Answers.{AnswersAsked, HasGrown, IsCommitted, made_of}
 use Rattle.node.specs.Asking.{Request, handled_as, proposed, work_asked}
 use Rattle.node.specs.Fits.{Fits, IsHandled, IsPrepared, IsWork}
 use Rattle.outbox.specs.Messages.{IsAddressed, IsOutgoing, IsSentFrom, messages_from}
-use Rattle.outbox.specs.WorkSteps.{HoldsWork}
 use Rattle.node.specs.Workers.{NodeView, Sending, Worker, WorkView, leases_of, sending_in, sending_of, with_outgoing, with_written, worker_at}
 use Rattle.node.specs.declared.outcome.Outcome.TheVariants as outcomes
 use Rattle.outbox.specs.declared.outgoing.Outgoing.TheVariants as outgoing
@@ -47,6 +46,13 @@ use Rattle.outbox.proofs.SendLaws.{made-late, made-outgoing}
 use Rattle.node.proofs.PurgeLaws.{held-at-on, held-on-at}
 
 -- ---- an entry that stands
+
+-- what is proposed of a row that is held was written, as the desk answered it
+abbrev pub HoldsWork : Shape → DeskView → DeskView → ℕ → RowName → Proposal → ℕ → List (Option HeldView)
+    → List (Option HeldView) → Type 0
+HoldsWork shape old new interval name proposal commit before after =
+    HoldsEntry shape interval name commit (λ (lease : LeaseView) (row : Contents) (answer : Written).
+    HasWritten old new lease name proposal row answer) before after
 
 -- an entry stands behind what was seen, under the last lease of its interval
 pub record IsAppended (old new : DeskView) (lease : LeaseView) (entry : Entry) (commit : ℕ) : Type 0 where

@@ -26,13 +26,12 @@ use Rattle.node.specs.Asking.{IsNextTimer, MayAskFire, Request}
 use Rattle.node.specs.FireSteps.{IsSetAt, IsTimerToFire}
 use Rattle.node.specs.Fits.{Fits, IsWork}
 use Rattle.outbox.specs.Messages.{IsAddressed, IsComputation, IsOutgoing, messages_from}
-use Rattle.outbox.specs.WorkSteps.{HoldsWork}
 use Rattle.node.specs.Workers.{NodeView, WorkView, with_outgoing, worker_at}
 use Rattle.node.specs.Works.{IsStateThere}
 use Rattle.node.specs.declared.outcome.NodeFault.{NodeFault}
 use Rattle.node.specs.declared.outcome.Outcome.{Outcome}
 use Rattle.node.specs.declared.outcome.Outcome.TheVariants as outcomes
-use Rattle.node.proofs.CommitLaws.{IsAppended, appended-written, committed, leases-written, more-by}
+use Rattle.node.proofs.CommitLaws.{HoldsWork, IsAppended, appended-written, committed, leases-written, more-by}
 use Rattle.node.proofs.FitLaws.{outbox-more}
 use Rattle.node.proofs.PurgeLaws.{held-at-on, ok-answers}
 use Rattle.node.proofs.LookLaws.{err-fails, fault-later, some-later}

@@ -7,6 +7,7 @@ pub mod OutLaws
 pub mod FireLaws
 pub mod FiringLaws
 pub mod PurgeLaws
+pub mod PutLaws
 pub mod RefusedLaws
 pub mod ReportLaws
 pub mod StateLaws

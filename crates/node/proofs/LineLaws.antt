@@ -1,6 +1,6 @@
 -- What a node asks for of the next line of an injector, and what it leaves once the line is injected.
 use Rattle.std.proofs.Common.{◌≡◌, ◌∙◌, ◌<◌, ◌≤◌, ◌^◌, ℕ, List, ◌++◌, refl, sym, ap, subst, arith, inl, inr}
-use Rattle.std.specs.Prelude.{All, IfErr, IfOk, IfSome, Option, Some, None}
+use Rattle.std.specs.Prelude.{All, IfErr, IfOk, IfSome, IsSome, Option, Some, None}
 use Rattle.std.specs.Option.{option_and_then, option_map}
 use Rattle.std.proofs.lemmas.Bool.{cases_eq, lt-ltb}
 use Rattle.std.proofs.lemmas.List.Elements.{All-append}
@@ -26,17 +26,16 @@ use Rattle.book.specs.declared.proposal.Proposal.{Proposal}
 use Rattle.book.specs.declared.proposal.Proposal.TheVariants as proposals
 use Rattle.holdings.specs.Holding.{AreAllHeld, HeldView, IsRefusedOf, held_at, row_held, with_row}
 use Rattle.holdings.proofs.HeldRows.{row_held-other}
-use Rattle.node.specs.Answers.{AnswersAsked, AnswersWrite, FailsAsked, HasGrown, HasKept, made_of}
+use Rattle.node.specs.Answers.{AnswersAsked, AnswersWrite, FailsAsked, HasKept, made_of}
 use Rattle.node.specs.Asking.{Request, line_asked, next_line}
 use Rattle.node.specs.Fits.{Fits, IsHandled, IsPrepared, IsWork}
 use Rattle.node.specs.LineSteps.{IsLineNext, injector_row, line_deliveries}
 use Rattle.outbox.specs.Messages.{IsAddressed, IsOutgoing, messages_from}
-use Rattle.outbox.specs.WorkSteps.{HoldsWork}
 use Rattle.node.specs.Steps.{HasYielded, answered}
 use Rattle.node.specs.Workers.{NodeView, WorkView, with_outgoing, worker_at}
 use Rattle.node.specs.declared.outcome.Outcome.TheVariants as outcomes
 use Rattle.outbox.specs.declared.outgoing.Outgoing.TheVariants as outgoing
-use Rattle.node.proofs.CommitLaws.{IsAppended, appended-written, committed, grown-by, leases-written, more-by, small-number}
+use Rattle.node.proofs.CommitLaws.{HoldsWork, IsAppended, appended-written, committed, leases-written, more-by, small-number}
 use Rattle.node.proofs.FitLaws.{HasMore, fails-refused, held-interval, outbox-more, outgoing-more}
 use Rattle.node.proofs.PurgeLaws.{ok-answers, held-at-on}
 use Rattle.node.proofs.RefusedLaws.{reason-at, refused-held}
@@ -71,6 +70,13 @@ asked-line case node part line item next is =
     ≡ Some (injecting part line item next.held)) next.next
     (asked-item (item_at (source_of case part) line) item (λ (r : Record). injecting part line r next.held) is)
 
+-- the injector's row is held
+pub next-there : (case : CaseShape) (node : NodeView) (part line interval : ℕ) (name : RowName) → name ≡ injector_row part
+    → IsLineNext case node part line → interval_of case.topology name ≡ Some interval → IsSome (held_at node.held interval)
+next-there case node part line interval name is next covers =
+    subst (λ (o : Option HeldView). IsSome o) (sym (held-at-on case.topology node.held (injector_row part) interval next.held next.there
+    (subst (λ (n : RowName). interval_of case.topology n ≡ Some interval) is covers))) refl
+
 -- it may be proposed
 pub next-line : (case : CaseShape) (node : NodeView) (part line interval : ℕ) (name : RowName) → name ≡ injector_row part
     → IsLineNext case node part line → interval_of case.topology name ≡ Some interval
@@ -104,14 +110,6 @@ appended-line case old new interval part line item commit before after of_case i
     let found = subst (λ (k : CaseShape). option_map record_of (item_at (source_of k part) line) ≡ Some entry.0) of_case entry.1.0 in
     appended-written case.topology old new interval (injector_row part) (proposals.Inject line) commit before after h _
     (entry.1.1 ∙ ap (entries.Inject h.held.lease.seq part line) (some_same entry.0 item (sym found ∙ is)))
-
--- and is the node's own
-pub grown-line : (case : CaseShape) (old new : DeskView) (interval part line : ℕ) (item : Record) (commit : ℕ)
-    (before after : List (Option HeldView)) → old.case ≡ case → option_map record_of (item_at (source_of case part) line) ≡ Some item
-    → HoldsOwn case.topology old new interval part line commit before after → HasGrown before old new
-grown-line case old new interval part line item commit before after of_case is h =
-    grown-by before old new interval h.held (entries.Inject h.held.lease.seq part line item) commit h.was
-    (appended-line case old new interval part line item commit before after of_case is h) refl
 
 -- ---- what is prepared
 

@@ -103,17 +103,6 @@ HoldsPurge shape old new interval name floor commit before after = HoldsEntry sh
     (λ (lease : LeaseView) (row : Contents) (answer : Written). HasStored old new lease name (entries.Purge lease.seq name floor) row
     (λ (number : ℕ). written_row number (entries.Purge lease.seq name floor) [] row) answer) before after
 
--- its entry is the node's own
-pub grown-purge : (shape : Shape) (old new : DeskView) (interval : ℕ) (name : RowName) (floor commit : ℕ)
-    (before after : List (Option HeldView)) → HoldsPurge shape old new interval name floor commit before after → HasGrown before old new
-grown-purge shape old new interval name floor commit before after h = record {
-  before = h.entry.before;
-  moved = h.entry.moved;
-  own = Some (entries.Purge h.held.lease.seq name floor);
-  appended = h.entry.written.appended;
-  under = inr (interval, h.held, h.was, refl);
-}
-
 -- the node fits
 pub Fits-purged : (case : CaseShape) (old new : DeskView) (node : NodeView) (interval : ℕ) (name : RowName) (floor commit : ℕ)
     (held : List (Option HeldView)) → HoldsPurge case.topology old new interval name floor commit node.held held → AreAllHeld case new held

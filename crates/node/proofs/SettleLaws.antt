@@ -26,7 +26,7 @@ use Rattle.book.specs.declared.proposal.Proposal.{Proposal}
 use Rattle.book.specs.declared.proposal.Proposal.TheVariants as proposals
 use Rattle.holdings.specs.Holding.{AreAllHeld, HeldView, HoldsEntry, IsRefusedOf, held_at, held_on, row_held, with_row}
 use Rattle.holdings.proofs.HeldRows.{name_or_not, row_held-here, row_held-other}
-use Rattle.node.specs.Answers.{AnswersAck, AnswersAsked, AnswersWrite, FailsAsked, HasGrown, HasKept, IsRefused, made_of, refusal_of}
+use Rattle.node.specs.Answers.{AnswersAck, AnswersAsked, AnswersWrite, FailsAsked, HasKept, IsRefused, made_of, refusal_of}
 use Rattle.node.specs.Asking.{Request, settle_asked, settling}
 use Rattle.node.specs.Fits.{Fits, IsHandled, IsPrepared, IsWork}
 use Rattle.node.specs.Steps.{HasYielded, answered}
@@ -36,7 +36,7 @@ use Rattle.node.specs.declared.outcome.Outcome.{Outcome}
 use Rattle.node.specs.declared.outcome.Outcome.TheVariants as outcomes
 use Rattle.outbox.specs.declared.outgoing.Outgoing.{Outgoing}
 use Rattle.outbox.specs.declared.outgoing.Outgoing.TheVariants as outgoing
-use Rattle.node.proofs.CommitLaws.{IsAppended, committed, grown-by, leases-written, more-by}
+use Rattle.node.proofs.CommitLaws.{IsAppended, committed, leases-written, more-by}
 use Rattle.node.proofs.FitLaws.{HasMore, fails-refused, held-interval, outbox-more, outgoing-more}
 use Rattle.node.proofs.PurgeLaws.{holding, ok-answers, held-on-at}
 use Rattle.node.proofs.RefusedLaws.{reason-at, refused-held}
@@ -76,13 +76,6 @@ appended-settled shape old new interval to id commit before after h =
       number = h.entry.written.commit;
       last = h.entry.written.last;
     })
-
--- its entry is the node's own
-pub grown-settled : (shape : Shape) (old new : DeskView) (interval : ℕ) (to : RowName) (id : RecordId) (commit : ℕ)
-    (before after : List (Option HeldView)) → HoldsAck shape old new interval to id commit before after → HasGrown before old new
-grown-settled shape old new interval to id commit before after h =
-    grown-by before old new interval h.held (entries.Ack h.held.lease.seq to id) commit h.was
-    (appended-settled shape old new interval to id commit before after h) refl
 
 -- ---- what is prepared
 

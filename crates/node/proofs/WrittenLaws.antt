@@ -19,11 +19,10 @@ use Rattle.node.specs.Asking.{Request, handled_as, work_asked}
 use Rattle.node.specs.Fits.{Fits}
 use Rattle.outbox.specs.Messages.{IsAddressed, messages_from}
 use Rattle.node.specs.Steps.{HasYielded, answered}
-use Rattle.outbox.specs.WorkSteps.{HoldsWork}
 use Rattle.node.specs.Workers.{NodeView, Worker, WorkView}
 use Rattle.outbox.specs.declared.outgoing.Outgoing.{Outgoing}
 use Rattle.outbox.specs.declared.outgoing.Outgoing.TheVariants as outgoing
-use Rattle.node.proofs.CommitLaws.{Fits-written, appended-work, grown-by, small-number, work-asked, work-of, written_by}
+use Rattle.node.proofs.CommitLaws.{Fits-written, HoldsWork, appended-work, grown-by, small-number, work-asked, work-of, written_by}
 use Rattle.node.proofs.FitLaws.{answers-refused, fails-refused}
 use Rattle.node.proofs.PurgeLaws.{ok-answers, held-at-on}
 use Rattle.node.proofs.RefusedLaws.{reason-at}

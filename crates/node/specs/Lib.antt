@@ -5,6 +5,7 @@ pub mod Works
 pub mod Asking
 pub mod Answers
 pub mod Steps
+pub mod PutSteps
 pub mod LineSteps
 pub mod SweepSteps
 pub mod PurgeSteps

@@ -1,20 +1,15 @@
 //! Timers that fire.
-ghost use Rattle.std.specs.Prelude.{◌≡◌, ◌<◌, ◌^◌, ◌++◌, ℕ, All, IfErr, IfOk, None, OnErr, OnOk, Some, length};
+ghost use Rattle.std.specs.Prelude.{◌≡◌, ◌<◌, IfErr, IfOk, None, OnErr, Some, length};
 ghost use Rattle.std.specs.Ordering.{is_lt};
 ghost use Rattle.run_history.specs.Cases.{intervals_of};
 ghost use Rattle.book.specs.Desking.{IsDueKnown};
 ghost use Rattle.book.specs.Desks.{HasLooked, KeepsMarks};
-ghost use Rattle.book.specs.declared.proposal.Proposal.TheVariants as proposals;
 ghost use Rattle.node.specs.Answers.{AnswersFire, AnswersSome, FailsFire, FailsSome, HasGrown, HasKept};
 ghost use Rattle.node.specs.Fits.{Fits};
-ghost use Rattle.holdings.specs.Holding.{AreAllHeld, IsRefusedOf, KeepsHeld};
 ghost use Rattle.holdings.specs.Timers.{due_cmp, pair_of};
-ghost use Rattle.topology.specs.Shapes.{parts_of};
-ghost use Rattle.run_history.specs.Fences.{interval_of};
 ghost use Rattle.node.specs.Asking.{IsNextTimer, MayAskFire};
 ghost use Rattle.node.specs.FireSteps.{AreAllWithin, IsFirstIn, IsLeftByHandler, IsLeastTimerBelow, IsSetAt, IsTimerToFire, due_under, earlier_timer, lesser_timer};
-ghost use Rattle.outbox.specs.Messages.{IsAddressed, IsComputation};
-ghost use Rattle.outbox.specs.WorkSteps.{HoldsWork, handler_sends};
+ghost use Rattle.outbox.specs.Messages.{IsComputation};
 ghost use Rattle.node.specs.Workers.{NodeView};
 ghost use Rattle.node.specs.Works.{IsWorkOf};
 
@@ -22,11 +17,11 @@ use crate::handling::fired;
 use crate::known_marks::least_known;
 use crate::node::Node;
 use crate::outcome::{NodeFault, Outcome};
-use book::{Desk, DeskRefusal, Proposal, Seen};
+use book::{Desk, Proposal, Seen, Writing};
 use computations::Computation;
 use holdings::{Holdings, RowTimer};
-use mw_types::{Effects, NoMemory, RowName, Timer};
-use outbox::{Outbox, made_by, write_made};
+use mw_types::{Effects, NoMemory};
+use outbox::made_by;
 use run_history::Case;
 use std::alloc::Global;
 
@@ -132,79 +127,26 @@ impl<N: Seen> Node<N> {
         desk.sound();
         let interval = case.interval_of(&found.name);
         let effects = effects_of(&self.held, alloc, case, work, interval, found)?;
-        let (held, outbox) = (&mut self.held, &mut self.outbox);
-        let written = write_fire(
-            held, outbox, alloc, desk, case, interval, found, mark, effects,
-        );
-        desk.sound();
-        match written {
-            Ok(commit) => Ok(Outcome::Committed { commit }),
-            Err(why) => self.yield_to(case, interval, why),
-        }
+        let timer = found.timer;
+        let made = match made_by(alloc, case, &found.name, &effects, timer.late) {
+            Ok(made) => made,
+            Err(NoMemory) => {
+                drop(effects);
+                return Err(NodeFault::NoMemory);
+            }
+        };
+        let proposal = Proposal::Fire {
+            timer,
+            mark,
+            effects,
+        };
+        let writing = Writing::Propose {
+            proposal: &proposal,
+        };
+        let fired = self.put_on(alloc, desk, case, interval, &found.name, writing, made);
+        drop(proposal);
+        fired
     }
-}
-
-// Writes that a timer of a row that is held of an interval fired, and then puts what its handler produced
-// into the outbox.
-#[tactic(auto, using(crate::proofs::FitLaws::looked_not))]
-fn write_fire<D: Desk>(
-    held: &mut Holdings,
-    outbox: &mut Outbox,
-    alloc: Global,
-    desk: &mut D,
-    case: &Case,
-    interval: u32,
-    found: &RowTimer,
-    mark: u64,
-    effects: Effects,
-) -> Result<u64, DeskRefusal>
-    requires case { (D.view desk.old).case ≡ case.now }
-    requires fits { AreAllHeld case.now (D.view desk.old) held.old }
-    requires covers { interval_of case.now.topology found.now.name ≡ Some interval }
-    requires part { found.now.name.part < parts_of case.now.topology }
-    requires set { IsSetAt case.now.topology held.old interval found.now.name found.now.timer }
-    requires left { IsLeftByHandler case.now held.old interval
-        found.now.name found.now.timer effects }
-    requires known { IsDueKnown (D.view desk.old) found.now.name.part found.now.timer.time mark }
-
-    ensures fits { AreAllHeld case.now (D.view desk.new) held.new }
-    ensures fired { IfOk result (λ commit. HoldsWork case.now.topology
-        (D.view desk.old) (D.view desk.new) interval found.now.name
-        (proposals.Fire found.now.timer mark effects) commit held.old held.new) }
-    ensures sent { IfOk result (λ commit. outbox.new.messages ≡ outbox.old.messages
-        ++ handler_sends case.now.topology found.now.name effects found.now.timer.late commit) }
-    ensures unsent { OnErr result (outbox.new.messages ≡ outbox.old.messages) }
-    ensures addressed { OnOk result ((commit : ℕ) → commit < 2 ^ 32 →
-        All (IsAddressed case.now.topology)
-        (handler_sends case.now.topology found.now.name effects found.now.timer.late commit)) }
-
-    ensures kept { OnErr result (KeepsHeld case.now.topology held.old held.new) }
-    ensures looked { OnErr result (HasLooked (D.view desk.old) (D.view desk.new)) }
-    ensures reason { IfErr result
-        (IsRefusedOf (D.view desk.old) (D.view desk.new) held.old interval) }
-    ensures marks { KeepsMarks (D.view desk.old) (D.view desk.new) }
-    ensures loan { D.loan desk.new ≡ D.loan desk.old }
-    ensures home { D.home desk.new ≡ D.home desk.old }
-{
-    let timer = found.timer;
-    let name = &found.name;
-    let made = match made_by(alloc, case, name, &effects, timer.late) {
-        Ok(made) => made,
-        Err(NoMemory) => {
-            drop(effects);
-            return Err(DeskRefusal::NoMemory);
-        }
-    };
-    let proposal = Proposal::Fire {
-        timer,
-        mark,
-        effects,
-    };
-    let written = write_made(
-        held, outbox, alloc, desk, case, interval, name, &proposal, made,
-    );
-    drop(proposal);
-    written
 }
 
 /// What a handler leaves of a timer of a row that is held of an interval, for a caller that then

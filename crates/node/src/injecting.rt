@@ -1,29 +1,22 @@
 //! Lines of injectors that are injected.
-ghost use Rattle.std.specs.Prelude.{◌≡◌, ◌<◌, ◌≤◌, ◌^◌, ◌++◌, ℕ, All, IfErr, IfOk, IfSome, IsSome, OnErr, OnOk, Some, length, map};
+ghost use Rattle.std.specs.Prelude.{◌≡◌, ◌<◌, ◌≤◌, ◌^◌, ℕ, All, IfErr, IfOk, OnErr, OnOk, map};
 ghost use Rattle.mw_types.specs.declared.TheConstants.{MAX_STAMP};
-ghost use Rattle.topology.specs.Shapes.{Shape, injectors_of, parts_of};
-ghost use Rattle.row_parts.specs.Contents.{cursor_in};
-ghost use Rattle.run_history.specs.Cases.{source_of};
-ghost use Rattle.run_history.specs.Fences.{interval_of};
+ghost use Rattle.topology.specs.Shapes.{injectors_of, parts_of};
 ghost use Rattle.book.specs.Desks.{HasLooked, KeepsMarks};
-ghost use Rattle.book.specs.Proposals.{IsNextLine};
-ghost use Rattle.book.specs.declared.proposal.Proposal.TheVariants as proposals;
-ghost use Rattle.holdings.specs.Holding.{AreAllHeld, IsRefusedOf, KeepsHeld, held_at, row_held};
 ghost use Rattle.node.specs.Answers.{AnswersAsked, FailsAsked, HasGrown, HasKept};
 ghost use Rattle.node.specs.Asking.{line_asked};
 ghost use Rattle.node.specs.Fits.{Fits};
 ghost use Rattle.node.specs.LineSteps.{IsLineNext, IsNextOf, injector_row, line_deliveries, line_held, production_of};
+ghost use Rattle.node.specs.Workers.{worker_at};
 ghost use Rattle.outbox.specs.Messages.{IsAddressed, messages_from};
 ghost use Rattle.outbox.specs.Outboxes.{numbered};
-ghost use Rattle.outbox.specs.WorkSteps.{HoldsWork};
-ghost use Rattle.node.specs.Workers.{worker_at};
 
 use crate::node::Node;
 use crate::outcome::{NodeFault, Outcome};
-use book::{Desk, DeskRefusal, Proposal, Seen, production_of};
-use holdings::{Held, Holdings};
-use mw_types::{Key, NoMemory, Record, RowName};
-use outbox::{Outbox, Outgoing, made, write_made};
+use book::{Desk, Proposal, Seen, Writing, production_of};
+use holdings::Held;
+use mw_types::{NoMemory, Record, RowName};
+use outbox::{Outgoing, made};
 use run_history::Case;
 use std::alloc::Global;
 use topology::Topology;
@@ -59,7 +52,7 @@ impl<N: Seen> Node<N> {
     {
         match self.next_line(alloc, case, part) {
             Some(line) => {
-                let name = injector_row(alloc, part);
+                let name = Case::injector_row(alloc, part);
                 self.inject_line(alloc, desk, case, part, &name, line)
             }
             None => Ok(Outcome::Nothing),
@@ -73,7 +66,7 @@ impl<N: Seen> Node<N> {
         if case.topology.injectors() <= part {
             return None;
         }
-        let name = injector_row(alloc, part);
+        let name = Case::injector_row(alloc, part);
         self.line_on(case, part, &name)
     }
 
@@ -123,68 +116,13 @@ impl<N: Seen> Node<N> {
         let item = case.line_record(alloc, part, line)?;
         let made = made_of(alloc, &case.topology, name, item)?;
         let interval = case.interval_of(name);
-        let (held, outbox) = (&mut self.held, &mut self.outbox);
-        let written = write_line(held, outbox, alloc, desk, case, interval, name, line, made);
-        desk.sound();
-        match written {
-            Ok(commit) => Ok(Outcome::Committed { commit }),
-            Err(why) => self.yield_to(case, interval, why),
-        }
-    }
-}
-
-// Writes that the next line of an injector's row that is held is injected, and then puts what it made into
-// the outbox.
-fn write_line<D: Desk>(
-    held: &mut Holdings,
-    outbox: &mut Outbox,
-    alloc: Global,
-    desk: &mut D,
-    case: &Case,
-    interval: u32,
-    name: &RowName,
-    line: u32,
-    made: Vec<Outgoing>,
-) -> Result<u64, DeskRefusal>
-    requires case { (D.view desk.old).case ≡ case.now }
-    requires fits { AreAllHeld case.now (D.view desk.old) held.old }
-    requires covers { interval_of case.now.topology name.now ≡ Some interval }
-    requires part { name.now.part < parts_of case.now.topology }
-    requires there { IsSome (held_at held.old interval) }
-    requires next { IfSome (held_at held.old interval) (λ here. IsNextLine case.now name.now
-        (row_held case.now.topology here name.now) line) }
-
-    ensures fits { AreAllHeld case.now (D.view desk.new) held.new }
-    ensures injected { IfOk result (λ commit. HoldsWork case.now.topology
-        (D.view desk.old) (D.view desk.new) interval name.now (proposals.Inject line) commit
-        held.old held.new) }
-    ensures sent { IfOk result (λ commit. outbox.new.messages
-        ≡ outbox.old.messages ++ map (numbered commit) made.items) }
-    ensures unsent { OnErr result (outbox.new.messages ≡ outbox.old.messages) }
-
-    ensures kept { OnErr result (KeepsHeld case.now.topology held.old held.new) }
-    ensures looked { OnErr result (HasLooked (D.view desk.old) (D.view desk.new)) }
-    ensures reason { IfErr result
-        (IsRefusedOf (D.view desk.old) (D.view desk.new) held.old interval) }
-    ensures marks { KeepsMarks (D.view desk.old) (D.view desk.new) }
-    ensures loan { D.loan desk.new ≡ D.loan desk.old }
-    ensures home { D.home desk.new ≡ D.home desk.old }
-{
-    let proposal = Proposal::Inject { line };
-    let written = write_made(
-        held, outbox, alloc, desk, case, interval, name, &proposal, made,
-    );
-    drop(proposal);
-    written
-}
-
-// The name of an injector's row.
-fn injector_row(alloc: Global, part: u32) -> RowName
-    ensures { result ≡ injector_row part }
-{
-    RowName {
-        part,
-        key: Key::none(alloc),
+        let proposal = Proposal::Inject { line };
+        let writing = Writing::Propose {
+            proposal: &proposal,
+        };
+        let injected = self.put_on(alloc, desk, case, interval, name, writing, made);
+        drop(proposal);
+        injected
     }
 }
 
@@ -193,31 +131,12 @@ fn line_of(held: &Held, case: &Case, name: &RowName) -> Option<u32>
     requires injector { name.now.part < injectors_of case.now.topology }
     ensures { result ≡ line_held case.now held.now name.now }
 {
-    let line = cursor_of(held, name);
-    if line < lines(case, name.part) {
+    let line = held.cursor(name);
+    if line < case.lines(name.part) {
         Some(line)
     } else {
         None
     }
-}
-
-// How many lines of an injector were injected, by its row as it is held.
-fn cursor_of(held: &Held, name: &RowName) -> u32
-    ensures { (shape : Shape) →
-        result ≡ cursor_in (row_held shape held.now name.now).state }
-{
-    match held.row(name) {
-        Some(row) => row.cursor(),
-        None => 0,
-    }
-}
-
-// How many lines an injector has.
-fn lines(case: &Case, part: u32) -> u32
-    requires { part < injectors_of case.now.topology }
-    ensures { result ≡ length (source_of case.now part) }
-{
-    case.items.as_slice()[part as usize].count()
 }
 
 // What the record of a line becomes, under the commit number 0: the entry's comes later.

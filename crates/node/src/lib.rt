@@ -21,6 +21,7 @@ mod messages_out;
 mod node;
 mod outcome;
 mod purges;
+mod puts;
 mod receiving;
 mod reports;
 mod settling;

@@ -11,7 +11,7 @@ ghost use Rattle.node.specs.Workers.{worker_at};
 
 use crate::node::Node;
 use crate::outcome::{NodeFault, Outcome};
-use book::{Desk, Seen};
+use book::{Desk, Seen, Writing};
 use holdings::Held;
 use mw_types::{Duplicate, NoMemory, RowName};
 use run_history::Case;
@@ -171,12 +171,9 @@ impl<N: Seen> Node<N> {
         ensures loan { D.loan desk.new ≡ D.loan desk.old }
         ensures home { D.home desk.new ≡ D.home desk.old }
     {
-        desk.sound();
         let interval = case.interval_of(name);
-        match self.held.purge(alloc, desk, case, interval, name, floor) {
-            Ok(commit) => Ok(Outcome::Committed { commit }),
-            Err(why) => self.yield_to(case, interval, why),
-        }
+        let writing = Writing::Purge { floor };
+        self.put_on(alloc, desk, case, interval, name, writing, Vec::new(alloc))
     }
 }
 

@@ -1,11 +1,9 @@
 //! Acknowledgements that come to a worker.
 ghost use Rattle.std.specs.Prelude.{◌≡◌, ◌<◌, IfErr, IfOk, IfSome, OnErr, true};
-ghost use Rattle.std.specs.Option.{is_some};
-ghost use Rattle.row_parts.specs.Contents.{found_delivery};
 ghost use Rattle.run_history.specs.Finished.{is_handled};
-ghost use Rattle.topology.specs.Shapes.{Shape, parts_of};
+ghost use Rattle.topology.specs.Shapes.{parts_of};
 ghost use Rattle.book.specs.Desks.{HasLooked, KeepsMarks};
-ghost use Rattle.holdings.specs.Holding.{held_on, row_held};
+ghost use Rattle.holdings.specs.Holding.{held_on};
 ghost use Rattle.node.specs.Answers.{AnswersAck, AnswersAckOf, FailsAsked, HasGrown, HasKept};
 ghost use Rattle.node.specs.Asking.{ack_asked, settle_asked};
 ghost use Rattle.node.specs.Fits.{Fits};
@@ -15,8 +13,7 @@ ghost use Rattle.node.specs.Received.{IsAck, note_of, outgoing_of};
 use crate::message::{Message, Receipt};
 use crate::node::Node;
 use crate::outcome::{NodeFault, Outcome};
-use book::{Desk, Seen};
-use holdings::Held;
+use book::{Desk, Seen, Writing};
 use mw_types::{RecordId, RowName};
 use run_history::Case;
 use std::alloc::Global;
@@ -106,25 +103,10 @@ impl<N: Seen> Node<N> {
         let Some(held) = self.held.get(interval) else {
             return Ok(Outcome::NotMine);
         };
-        if !is_pending(held, to, id) {
+        if !held.is_pending(to, id) {
             return Ok(Outcome::Nothing);
         }
-        let settled = self.held.settle(alloc, desk, case, interval, to, id);
-        desk.sound();
-        match settled {
-            Ok(commit) => Ok(Outcome::Committed { commit }),
-            Err(why) => self.yield_to(case, interval, why),
-        }
-    }
-}
-
-// Whether an id is pending in a row as it is held.
-fn is_pending(held: &Held, to: &RowName, id: RecordId) -> bool
-    ensures { (shape : Shape) →
-        result ≡ is_some (found_delivery id (row_held shape held.now to.now).pending) }
-{
-    match held.row(to) {
-        Some(row) => row.is_pending(id),
-        None => false,
+        let writing = Writing::Settle { id };
+        self.put_on(alloc, desk, case, interval, to, writing, Vec::new(alloc))
     }
 }

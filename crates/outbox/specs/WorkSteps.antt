@@ -1,4 +1,4 @@
--- The steps by which a worker writes what is proposed.
+-- The steps by which a worker writes into a row that it holds.
 use Rattle.std.specs.Prelude.{◌++◌, ◌∷◌, [], ℕ, Bool, List, Option}
 use Rattle.mw_types.specs.Outcomes.{EffectsView}
 use Rattle.mw_types.specs.declared.delivery.Delivery.{Delivery}
@@ -7,21 +7,21 @@ use Rattle.topology.specs.Shapes.{Shape}
 use Rattle.row_parts.specs.Contents.{Contents}
 use Rattle.run_history.specs.Made.{deliveries_made}
 use Rattle.book.specs.Books.{LeaseView}
-use Rattle.book.specs.Desking.{HasWritten}
 use Rattle.book.specs.Desks.{DeskView}
+use Rattle.book.specs.Writings.{HasPut}
 use Rattle.book.specs.declared.answers.Written.{Written}
-use Rattle.book.specs.declared.proposal.Proposal.{Proposal}
+use Rattle.book.specs.declared.writing.Writing.{Writing}
 use Rattle.holdings.specs.Holding.{HeldView, HoldsEntry}
 use Rattle.outbox.specs.Messages.{messages_from}
 use Rattle.outbox.specs.declared.outgoing.Outgoing.{Outgoing}
 use Rattle.outbox.specs.declared.outgoing.Outgoing.TheVariants as outgoing
 
--- what is proposed of a row that is held was written, as the desk answered it
-abbrev pub HoldsWork : Shape → DeskView → DeskView → ℕ → RowName → Proposal → ℕ → List (Option HeldView)
+-- this was written of a row that is held, as the desk answered it
+abbrev pub HoldsPut : Shape → DeskView → DeskView → ℕ → RowName → Writing → ℕ → List (Option HeldView)
     → List (Option HeldView) → Type 0
-HoldsWork shape old new interval name proposal commit before after =
+HoldsPut shape old new interval name writing commit before after =
     HoldsEntry shape interval name commit (λ (lease : LeaseView) (row : Contents) (answer : Written).
-    HasWritten old new lease name proposal row answer) before after
+    HasPut old new lease name writing row answer) before after
 
 -- what a handler produced becomes messages from its row, under the commit number of the entry
 abbrev pub handler_sends : Shape → RowName → EffectsView → Bool → ℕ → List Outgoing

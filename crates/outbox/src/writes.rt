@@ -6,16 +6,18 @@ ghost use Rattle.run_history.specs.Fences.{interval_of};
 ghost use Rattle.book.specs.Desking.{IsKnownOf};
 ghost use Rattle.book.specs.Desks.{HasLooked, KeepsMarks};
 ghost use Rattle.book.specs.Proposals.{IsProposable};
+ghost use Rattle.book.specs.Writings.{MayPut};
 ghost use Rattle.book.specs.declared.proposal.Proposal.TheVariants as proposals;
+ghost use Rattle.book.specs.declared.writing.Writing.TheVariants as writings;
 ghost use Rattle.holdings.specs.Holding.{AreAllHeld, IsRefusedOf, KeepsHeld, held_at, row_held};
 ghost use Rattle.outbox.specs.Messages.{IsAddressed};
 ghost use Rattle.outbox.specs.Outboxes.{numbered};
-ghost use Rattle.outbox.specs.WorkSteps.{HoldsWork, handler_sends, with_sends};
+ghost use Rattle.outbox.specs.WorkSteps.{HoldsPut, handler_sends, with_sends};
 
 use crate::outbox::Outbox;
 use crate::outgoing::Outgoing;
 use crate::sends::made_by;
-use book::{Desk, DeskRefusal, Proposal};
+use book::{Desk, DeskRefusal, Proposal, Writing};
 use holdings::Holdings;
 use mw_types::{Delivery, Duplicate, Effects, RowName};
 use run_history::Case;
@@ -47,9 +49,9 @@ pub fn write_work<D: Desk>(
     requires known { IsKnownOf (D.view desk.old) parts.0.now.to proposal.now }
 
     ensures fits { AreAllHeld case.now (D.view desk.new) held.new }
-    ensures written { IfOk result (λ commit. HoldsWork case.now.topology
-        (D.view desk.old) (D.view desk.new) interval parts.entry.0.now.to proposal.now
-        commit held.old held.new) }
+    ensures put { IfOk result (λ commit. HoldsPut case.now.topology
+        (D.view desk.old) (D.view desk.new) interval parts.entry.0.now.to
+        (writings.Propose proposal) commit held.old held.new) }
     ensures sent { IfOk result (λ commit. outbox.new.messages ≡ with_sends case.now.topology
         sender.now parts.entry.0.now parts.entry.1.now commit outbox.old.messages) }
     ensures unsent { OnErr result (outbox.new.messages ≡ outbox.old.messages) }
@@ -69,14 +71,14 @@ pub fn write_work<D: Desk>(
     let to = sender.copy(alloc)?;
     let made = made_by(alloc, case, &delivery.to, effects, delivery.item.late)?;
     outbox.make_room(made.len() + 1)?;
-    let commit = held.write(alloc, desk, case, interval, &delivery.to, proposal)?;
+    let writing = Writing::Propose { proposal };
+    let commit = held.put(alloc, desk, case, interval, &delivery.to, writing)?;
     outbox.put_ack(to, delivery.id);
     outbox.put_all(made, commit);
     Ok(commit)
 }
 
-/// Writes what is proposed of a row that is held of an interval, and then puts what the entry made into
-/// the outbox.
+/// Writes into a row that is held of an interval, and then puts what the entry made into the outbox.
 #[tactic(auto, using(holdings::proofs::HeldSteps::unasked))]
 pub fn write_made<D: Desk>(
     held: &mut Holdings,
@@ -86,7 +88,7 @@ pub fn write_made<D: Desk>(
     case: &Case,
     interval: u32,
     name: &RowName,
-    proposal: &Proposal,
+    writing: Writing<'_>,
     made: Vec<Outgoing>,
 ) -> Result<u64, DeskRefusal>
     requires case { (D.view desk.old).case ≡ case.now }
@@ -94,13 +96,12 @@ pub fn write_made<D: Desk>(
     requires covers { interval_of case.now.topology name.now ≡ Some interval }
     requires part { name.now.part < parts_of case.now.topology }
     requires there { IsSome (held_at held.old interval) }
-    requires proposal { IfSome (held_at held.old interval) (λ here. IsProposable case.now
-        name.now (row_held case.now.topology here name.now) proposal.now) }
-    requires known { IsKnownOf (D.view desk.old) name.now proposal.now }
+    requires may { IfSome (held_at held.old interval) (λ here. MayPut (D.view desk.old)
+        name.now (row_held case.now.topology here name.now) writing) }
 
     ensures fits { AreAllHeld case.now (D.view desk.new) held.new }
-    ensures written { IfOk result (λ commit. HoldsWork case.now.topology
-        (D.view desk.old) (D.view desk.new) interval name.now proposal.now
+    ensures put { IfOk result (λ commit. HoldsPut case.now.topology
+        (D.view desk.old) (D.view desk.new) interval name.now writing.entry
         commit held.old held.new) }
     ensures sent { IfOk result (λ commit. outbox.new.messages
         ≡ outbox.old.messages ++ map (numbered commit) made.items) }
@@ -115,7 +116,7 @@ pub fn write_made<D: Desk>(
     ensures home { D.home desk.new ≡ D.home desk.old }
 {
     outbox.make_room(made.len())?;
-    let commit = held.write(alloc, desk, case, interval, name, proposal)?;
+    let commit = held.put(alloc, desk, case, interval, name, writing)?;
     outbox.put_all(made, commit);
     Ok(commit)
 }

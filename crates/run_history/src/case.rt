@@ -1,5 +1,5 @@
 //! What a run is of.
-ghost use Rattle.std.specs.Prelude.{◌≡◌, ◌<◌, ◌≤◌, ◌^◌, length, IfOk, Some};
+ghost use Rattle.std.specs.Prelude.{◌≡◌, ◌<◌, ◌≤◌, ◌^◌, [], length, IfOk, Some};
 ghost use Rattle.std.specs.Option.{option_map};
 ghost use Rattle.mw_types.specs.declared.TheConstants.{MAX_STAMP};
 ghost use Rattle.injector.specs.Sources.{item_at};
@@ -10,7 +10,7 @@ ghost use Rattle.run_history.specs.Fences.{interval_of};
 
 use injector::ItemsList;
 use key_intervals::Intervals;
-use mw_types::{Duplicate, NoMemory, Record, RowName};
+use mw_types::{Duplicate, Key, NoMemory, Record, RowName};
 use std::alloc::Global;
 use std::marker::Model;
 use topology::Topology;
@@ -66,6 +66,24 @@ impl Case {
         // Every topology keeps the rules that intervals need.
         let _parts = self.topology.parts();
         self.intervals.find(name)
+    }
+
+    /// The name of an injector's row, which has no key.
+    pub fn injector_row(alloc: Global, part: u32) -> RowName
+        ensures name { result ≡ record { part = part; key = [] } }
+    {
+        RowName {
+            part,
+            key: Key::none(alloc),
+        }
+    }
+
+    /// How many lines the file of an injector has.
+    pub fn lines(&self, part: u32) -> u32
+        requires injector { part < injectors_of self.now.topology }
+        ensures lines { result ≡ length (source_of self.now part) }
+    {
+        self.items.as_slice()[part as usize].count()
     }
 
     /// The record that an injector injects of a line that its file has.

@@ -1,9 +1,10 @@
 -- What a call on what a drain holds does to a book of its own: how the history goes on, what is held then, and why it fails.
-use Rattle.std.proofs.Common.{◌≡◌, ◌<◌, ◌∙◌, ℕ, List, [], ◌∷◌, ◌++◌, length, refl, sym, ap, subst, arith}
+use Rattle.std.proofs.Common.{◌≡◌, ◌<◌, ◌∙◌, ℕ, Bool, List, [], ◌∷◌, ◌++◌, length, refl, sym, ap, subst, arith}
 use Rattle.std.specs.Prelude.{Option, Some, None, IsSome, IfSome, unwrap_or}
-use Rattle.std.specs.Option.{option_and_then}
+use Rattle.std.specs.Option.{is_some, option_and_then}
 use Rattle.std.proofs.lemmas.List.Elements.{All-nil}
 use Rattle.mw_types.specs.declared.entry.Entry.{Entry}
+use Rattle.mw_types.specs.declared.entry.Entry.TheVariants as entries
 use Rattle.mw_types.specs.declared.identity.RecordId.{RecordId}
 use Rattle.mw_types.specs.declared.identity.RowName.{RowName}
 use Rattle.topology.specs.Rules.{interval_count}
@@ -14,7 +15,7 @@ use Rattle.run_history.specs.Fences.{IsCurrent, interval_of, is_claim, last_clai
 use Rattle.run_history.specs.Runs.{cached, row_in, written_row}
 use Rattle.list_lemmas.proofs.Lists.{some_same}
 use Rattle.book.specs.Books.{BookView, LeaseView}
-use Rattle.book.specs.DeskReasons.{HasClaimReason, HasReason, IsReportRefusal}
+use Rattle.book.specs.DeskReasons.{HasClaimReason, HasReason}
 use Rattle.book.specs.Desking.{HasStored, HasWritten}
 use Rattle.book.specs.Desks.{HasLooked, IsSound}
 use Rattle.book.specs.OwnDesks.{own_view}
@@ -24,18 +25,23 @@ use Rattle.book.specs.declared.desk_refusal.DeskRefusal.{DeskRefusal}
 use Rattle.book.specs.declared.desk_refusal.DeskRefusal.TheVariants as refusals
 use Rattle.book.specs.declared.proposal.Proposal.{Proposal}
 use Rattle.book.specs.declared.proposal.Proposal.TheVariants as proposals
+use Rattle.book.specs.declared.writing.Writing.{Writing}
+use Rattle.book.specs.declared.writing.Writing.TheVariants as writings
 use Rattle.holdings.specs.Holding.{AreAllHeld, HeldView, HoldsClaim, HoldsEntry, IsRefusedOf, held_at, row_held}
 use Rattle.holdings.proofs.HeldSteps.{AreAllHeld-looked}
+use Rattle.outbox.specs.Reports.{IsUnreported}
+use Rattle.outbox.specs.WorkSteps.{HoldsPut}
 use Rattle.node.specs.Answers.{refusal_of}
 use Rattle.node.specs.Fits.{Fits}
 use Rattle.node.specs.Workers.{with_lease, worker_at}
 use Rattle.node.specs.Works.{row_or_fresh}
 use Rattle.node.specs.declared.outcome.NodeFault.{NodeFault}
+use Rattle.node.specs.declared.outcome.NodeFault.TheVariants as faults
 use Rattle.node.proofs.CommitLaws.{leases-written}
 use Rattle.node.proofs.FitLaws.{leases-changed, looked_not}
 use Rattle.node.proofs.PurgeLaws.{held-on-at}
 use Rattle.node.proofs.RefusedLaws.{reason-at}
-use Rattle.world.specs.drains.Turns.{HasFailed, HasProposed, HasStepped, HasTaken, IsAtWork, IsOwnRefusal, sent_at, worker_of}
+use Rattle.world.specs.drains.Turns.{HasFailed, HasProposed, HasPutOwn, HasStepped, HasTaken, IsAtWork, IsOwnRefusal, sent_at, worker_of}
 use Rattle.world.proofs.drains.TurnLaws.{IsWrite, at_work-after, current, failed-refused, interval-counted, moved-before, stepped-by, stepped-looked}
 
 -- ---- what is held
@@ -57,6 +63,17 @@ pub here-current : (book : BookView) (all : List (Option HeldView)) (name : RowN
     → IsCurrent here.lease.interval here.lease.seq book.history
 here-current book all name interval here at covers there =
     current book (worker_of all) name here at (held-on-at book.case.topology all name interval here covers there)
+
+-- the lease of an interval is the last
+pub interval-current : (book : BookView) (all : List (Option HeldView)) (interval : ℕ) (here : HeldView) → IsAtWork book (worker_of all)
+    → interval < interval_count book.case.topology → held_at all interval ≡ Some here
+    → IsCurrent here.lease.interval here.lease.seq book.history
+interval-current book all interval here at less there =
+    let last = at.each interval less in
+    let same : last.held ≡ here = some_same last.held here (sym last.there ∙ there) in
+    let own = (at.fits.held.each interval here there).of_interval in
+    subst (λ (i : ℕ). IsCurrent i here.lease.seq book.history) (sym own)
+    (subst (λ (h : HeldView). IsCurrent interval h.lease.seq book.history) same last.last)
 
 -- what holds of what is held of an interval
 pub if-held : (P : HeldView → Type 0) (all : List (Option HeldView)) (interval : ℕ) (here : HeldView) → held_at all interval ≡ Some here
@@ -113,7 +130,7 @@ proposed shape old new interval name proposal commit was now h =
     }
 
 -- by what is held
-pub proposed-held : (shape : Shape) (old new : BookView) (interval : ℕ) (name : RowName) (proposal : Proposal) (commit : ℕ)
+proposed-held : (shape : Shape) (old new : BookView) (interval : ℕ) (name : RowName) (proposal : Proposal) (commit : ℕ)
     (was now : List (Option HeldView)) → HoldsProposal shape old new interval name proposal commit was now
     → IfSome (held_at was interval) (λ here. HasProposed old new here.lease.seq name proposal)
 proposed-held shape old new interval name proposal commit was now h =
@@ -121,7 +138,7 @@ proposed-held shape old new interval name proposal commit was now h =
     (proposed shape old new interval name proposal commit was now h)
 
 -- and the drain is at work
-pub proposed-at_work : (case : CaseShape) (old new : BookView) (interval : ℕ) (name : RowName) (proposal : Proposal) (commit : ℕ)
+proposed-at_work : (case : CaseShape) (old new : BookView) (interval : ℕ) (name : RowName) (proposal : Proposal) (commit : ℕ)
     (was now : List (Option HeldView)) → case ≡ old.case → IsAtWork old (worker_of was) → AreAllHeld case (own_view new) now
     → HoldsProposal case.topology old new interval name proposal commit was now → IsAtWork new (worker_of now)
 proposed-at_work case old new interval name proposal commit was now same at held h =
@@ -144,7 +161,7 @@ stored shape old new interval name entry commit was now h =
     stepped-by old new h.entry.before (Some (entry h.held.lease.seq)) h.entry.moved h.entry.written.appended
 
 -- by what is held
-pub stored-held : (shape : Shape) (old new : BookView) (interval : ℕ) (name : RowName) (entry : ℕ → Entry) (commit : ℕ)
+stored-held : (shape : Shape) (old new : BookView) (interval : ℕ) (name : RowName) (entry : ℕ → Entry) (commit : ℕ)
     (was now : List (Option HeldView)) → HoldsStored shape old new interval name entry commit was now
     → IfSome (held_at was interval) (λ here. HasStepped old new (Some (entry here.lease.seq)))
 stored-held shape old new interval name entry commit was now h =
@@ -152,13 +169,35 @@ stored-held shape old new interval name entry commit was now h =
     (stored shape old new interval name entry commit was now h)
 
 -- and the drain is at work, where it is no claim
-pub stored-at_work : (case : CaseShape) (old new : BookView) (interval : ℕ) (name : RowName) (entry : ℕ → Entry) (commit : ℕ)
+stored-at_work : (case : CaseShape) (old new : BookView) (interval : ℕ) (name : RowName) (entry : ℕ → Entry) (commit : ℕ)
     (was now : List (Option HeldView)) → case ≡ old.case → ((seq : ℕ) → IsWrite (entry seq)) → IsAtWork old (worker_of was)
     → AreAllHeld case (own_view new) now → HoldsStored case.topology old new interval name entry commit was now
     → IsAtWork new (worker_of now)
 stored-at_work case old new interval name entry commit was now same write at held h =
     at_work-entry case old new was now interval name commit _ (entry h.held.lease.seq) same at held h
     (stored case.topology old new interval name entry commit was now h) (write h.held.lease.seq)
+
+-- whatever was written stands behind the history, by what is held
+pub put-held : (shape : Shape) (old new : BookView) (interval : ℕ) (name : RowName) (writing : Writing) (commit : ℕ)
+    (was now : List (Option HeldView)) → HoldsPut shape (own_view old) (own_view new) interval name writing commit was now
+    → IfSome (held_at was interval) (λ here. HasPutOwn old new here.lease.seq name writing)
+put-held shape old new interval name (writings.Propose proposal) commit was now h =
+    proposed-held shape old new interval name proposal.now commit was now h
+put-held shape old new interval name (writings.Settle id) commit was now h =
+    stored-held shape old new interval name (λ seq. entries.Ack seq name id) commit was now h
+put-held shape old new interval name (writings.Purge floor) commit was now h =
+    stored-held shape old new interval name (λ seq. entries.Purge seq name floor) commit was now h
+
+-- and the drain is at work
+pub put-at_work : (case : CaseShape) (old new : BookView) (interval : ℕ) (name : RowName) (writing : Writing) (commit : ℕ)
+    (was now : List (Option HeldView)) → case ≡ old.case → IsAtWork old (worker_of was) → AreAllHeld case (own_view new) now
+    → HoldsPut case.topology (own_view old) (own_view new) interval name writing commit was now → IsAtWork new (worker_of now)
+put-at_work case old new interval name (writings.Propose proposal) commit was now same at held h =
+    proposed-at_work case old new interval name proposal.now commit was now same at held h
+put-at_work case old new interval name (writings.Settle id) commit was now same at held h =
+    stored-at_work case old new interval name (λ seq. entries.Ack seq name id) commit was now same (λ seq interval. refl) at held h
+put-at_work case old new interval name (writings.Purge floor) commit was now same at held h =
+    stored-at_work case old new interval name (λ seq. entries.Purge seq name floor) commit was now same (λ seq interval. refl) at held h
 
 -- ---- a refusal
 
@@ -198,6 +237,28 @@ refusal-held old new all name interval why at covers looked reason =
     refusal-own old new here.0.lease why (here-current old all name interval here.0 at covers here.1) looked
     (reason-at (own_view old) (own_view new) all interval here.0 why here.1 reason)
 
+-- so was one on an interval that is held
+pub refusal-interval : (old new : BookView) (all : List (Option HeldView)) (interval : ℕ) (why : DeskRefusal)
+    → IsAtWork old (worker_of all) → interval < interval_count old.case.topology → HasLooked (own_view old) (own_view new)
+    → IsRefusedOf (own_view old) (own_view new) all interval why → IsOwnRefusal why
+refusal-interval old new all interval why at less looked reason =
+    let last = at.each interval less in
+    refusal-own old new last.held.lease why (interval-current old all interval last.held at less last.there) looked
+    (reason-at (own_view old) (own_view new) all interval last.held why last.there reason)
+
+-- a report that no other refuses wants memory
+pub only-memory : (why : DeskRefusal) (fault : NodeFault) → IsOwnRefusal why → IsUnreported why → refusal_of fault ≡ why
+    → fault ≡ faults.NoMemory
+only-memory refusals.NoMemory faults.NoMemory own only is = refl
+only-memory refusals.NoMemory faults.HistoryFull own only is = absurd cc
+only-memory refusals.NoMemory faults.KeeperFault own only is = absurd cc
+only-memory refusals.NoMemory (faults.RowDamaged name bytes) own only is = absurd cc
+only-memory (refusals.Busy found) fault own only is = absurd own
+only-memory (refusals.Stale newer) fault own only is = absurd own
+only-memory refusals.HistoryFull fault own only is = absurd only
+only-memory refusals.KeeperFault fault own only is = absurd only
+only-memory (refusals.RowDamaged name bytes) fault own only is = absurd only
+
 -- a fault by a refusal under a lease
 pub failed-lease : (old new : BookView) (lease : LeaseView) (why : DeskRefusal) (fault : NodeFault) → refusal_of fault ≡ why
     → HasLooked (own_view old) (own_view new) → HasReason (own_view old) (own_view new) lease why → HasFailed old new fault
@@ -216,6 +277,15 @@ failed-held old new all name interval why fault at covers is looked reason =
     let here = held-here old all name interval at covers in
     failed-lease old new here.0.lease why fault is looked
     (reason-at (own_view old) (own_view new) all interval here.0 why here.1 reason)
+
+-- or on an interval that is held
+pub failed-interval : (old new : BookView) (all : List (Option HeldView)) (interval : ℕ) (why : DeskRefusal) (fault : NodeFault)
+    → IsAtWork old (worker_of all) → interval < interval_count old.case.topology → refusal_of fault ≡ why
+    → HasLooked (own_view old) (own_view new) → IsRefusedOf (own_view old) (own_view new) all interval why → HasFailed old new fault
+failed-interval old new all interval why fault at less is looked reason =
+    let last = at.each interval less in
+    failed-lease old new last.held.lease why fault is looked
+    (reason-at (own_view old) (own_view new) all interval last.held why last.there reason)
 
 -- ---- a claim
 
@@ -247,29 +317,6 @@ at_work-looked old new all at sound now_sound looked =
     let stepped = stepped-looked old new looked in
     let kept = AreAllHeld-looked old.case (own_view old) (own_view new) all all refl sound now_sound looked (λ i. refl) at.fits.held in
     at_work-after old new (worker_of all) (worker_of all) None at stepped tt (worker-fits old.case new all stepped.case kept) refl refl
-
--- a report under a last lease is not refused
-pub report-taken : (old new : BookView) (lease : LeaseView) (why : DeskRefusal) → IsCurrent lease.interval lease.seq old.history
-    → HasLooked (own_view old) (own_view new) → HasReason (own_view old) (own_view new) lease why → IsReportRefusal why → ⊥
-report-taken old new lease (refusals.Busy found) last looked reason only = refusal-own old new lease (refusals.Busy found) last
-    looked reason
-report-taken old new lease (refusals.Stale newer) last looked reason only =
-    refusal-own old new lease (refusals.Stale newer) last looked reason
-report-taken old new lease refusals.HistoryFull last looked reason only = only
-report-taken old new lease refusals.KeeperFault last looked reason only = only
-report-taken old new lease (refusals.RowDamaged name bytes) last looked reason only = only
-report-taken old new lease refusals.NoMemory last looked reason only = only
-
--- the lease of an interval is the last
-pub interval-current : (book : BookView) (all : List (Option HeldView)) (interval : ℕ) (here : HeldView) → IsAtWork book (worker_of all)
-    → interval < interval_count book.case.topology → held_at all interval ≡ Some here
-    → IsCurrent here.lease.interval here.lease.seq book.history
-interval-current book all interval here at less there =
-    let last = at.each interval less in
-    let same : last.held ≡ here = some_same last.held here (sym last.there ∙ there) in
-    let own = (at.fits.held.each interval here there).of_interval in
-    subst (λ (i : ℕ). IsCurrent i here.lease.seq book.history) (sym own)
-    (subst (λ (h : HeldView). IsCurrent interval h.lease.seq book.history) same last.last)
 
 -- ---- a row that is held
 
@@ -309,3 +356,12 @@ pub sent-by : (shape : Shape) (all : List (Option HeldView)) (name : RowName) (i
     → sent_at shape (worker_of all) name id ≡ option_and_then (λ (r : Contents). found_delivery id r.pending) row
 sent-by shape all name interval id row covers is =
     sent-cached shape all name interval id covers ∙ ap (option_and_then (λ (r : Contents). found_delivery id r.pending)) (sym is)
+
+-- whether it has an id pending, by what is held
+pub sent-here : (shape : Shape) (all : List (Option HeldView)) (name : RowName) (interval : ℕ) (id : RecordId) (here : HeldView)
+    (pending : Bool) → interval_of shape name ≡ Some interval → held_at all interval ≡ Some here
+    → pending ≡ is_some (found_delivery id (row_held shape here name).pending)
+    → pending ≡ is_some (sent_at shape (worker_of all) name id)
+sent-here shape all name interval id here pending covers at is =
+    is ∙ ap (λ (o : Option HeldView). is_some (option_and_then (λ (h : HeldView). found_delivery id (row_held shape h name).pending) o))
+    (sym (held-on-at shape all name interval here covers at))

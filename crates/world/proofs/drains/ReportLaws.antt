@@ -13,49 +13,34 @@ use Rattle.run_history.proofs.CaseIntervals.{length-intervals}
 use Rattle.run_history.proofs.Known.{known-last}
 use Rattle.list_lemmas.proofs.Lists.{some_same}
 use Rattle.watermark.specs.Marks.{feeding_marks, mark_of}
-use Rattle.book.specs.Books.{BookView, LeaseView}
-use Rattle.book.specs.Conditions.{IsOwnWork}
-use Rattle.book.specs.Desking.{IsReported}
+use Rattle.book.specs.Books.{BookView}
 use Rattle.book.specs.Marks.{reported, with_mark}
 use Rattle.book.specs.OwnDesks.{own_view}
 use Rattle.holdings.specs.Holding.{HeldView, IsHeld, held_at}
 use Rattle.holdings.proofs.OwnLaws.{own_work-known}
+use Rattle.outbox.specs.Reports.{IsReportOf}
 use Rattle.node.specs.Workers.{NodeView}
 use Rattle.world.specs.drains.ReportRounds.{marks_after_round, with_report}
-use Rattle.world.specs.drains.Turns.{HasReported, HasStepped, IsAtWork, IsOwnOf, worker_of}
+use Rattle.world.specs.drains.Turns.{HasReported, HasStepped, IsAtWork, worker_of}
 use Rattle.world.proofs.GoLaws.{told-on}
-use Rattle.world.proofs.drains.HeldLaws.{if-held}
 use Rattle.world.proofs.drains.KnownLaws.{told-fact}
 use Rattle.world.proofs.drains.Marked.{mark-same}
 use Rattle.world.proofs.drains.RoundLaws.{marks_after_reports, marks_after_reports-all, marks_after_reports-next}
 use Rattle.world.proofs.drains.TurnLaws.{stepped-on}
 
--- what was found is own work, by the case that a book tells
-pub own-is : (case : CaseShape) (book : BookView) (all : List (Option HeldView)) (interval own : ℕ) → case ≡ book.case
-    → ((held : HeldView) (bounds : Bounds) → held_at all interval ≡ Some held → slice_get (intervals_of case.topology) interval ≡
-    Some bounds
-    → own ≡ own_work case (cached held.rows) bounds)
-    → IfSome (held_at all interval) (λ held. IsOwnWork case (own_view book).told (own_view book).seen held.lease own)
-    → IsOwnOf book all interval own
-own-is case book all interval own same exact known = record {
-  of_rows = subst (λ (k : CaseShape). (held : HeldView) (bounds : Bounds) → held_at all interval ≡ Some held
-      → slice_get (intervals_of k.topology) interval ≡ Some bounds → own ≡ own_work k (cached held.rows) bounds) same exact;
-  known = λ held there. subst (λ (k : CaseShape). IsOwnWork k (own_view book).told (own_view book).seen held.lease own) same
-      (if-held (λ (h : HeldView). IsOwnWork case (own_view book).told (own_view book).seen h.lease own) all interval held there known);
-}
-
 -- a mark that was reported is that of the interval's own work
-pub marked-reported : (old new : BookView) (all : List (Option HeldView)) (interval mark own : ℕ) (held : HeldView)
-    (lease : LeaseView) → IsAtWork old (worker_of all) → IsTopology old.case.topology → held_at all interval ≡ Some held
-    → interval < interval_count old.case.topology → IsOwnOf old all interval own → lease ≡ held.lease
-    → IsReported (own_view old) (own_view new) lease own mark → IsSome old.rows → HasReported old new interval
-marked-reported old new all interval mark own held lease at rules there less found same_lease reported_mark told bounds bounded =
+pub marked-reported : (old new : BookView) (all : List (Option HeldView)) (interval mark : ℕ) (held : HeldView)
+    → IsAtWork old (worker_of all) → IsTopology old.case.topology → held_at all interval ≡ Some held
+    → interval < interval_count old.case.topology → IsReportOf old.case (own_view old) (own_view new) interval held mark
+    → IsSome old.rows → HasReported old new interval
+marked-reported old new all interval mark held at rules there less report told bounds bounded =
+    let own = report.own in
     let is : IsHeld old.case (own_view old) interval held = at.fits.held.each interval held there in
     let last = at.each interval less in
     let same : last.held ≡ held = some_same last.held held (sym last.there ∙ there) in
     let current : last_claim interval old.history ≡ Some held.lease.seq = subst (λ (h : HeldView).
     last_claim interval old.history ≡ Some h.lease.seq) same last.last in
-    let of_rows = found.of_rows held bounds there bounded in
+    let of_rows = report.of_rows bounds bounded in
     let known_own = told-fact old.rows (own ≡ own_work old.case
     (run_of old.case.topology (known held.lease.interval held.lease.seq old.history)) bounds) told
     (own_work-known old.case (own_view old) interval held bounds is bounded rules own of_rows) in
@@ -64,7 +49,7 @@ marked-reported old new all interval mark own held lease at rules there less fou
     (subst (λ (i : ℕ). last_claim i old.history ≡ Some held.lease.seq) (sym is.of_interval) current) in
     let work : own ≡ own_work old.case (run_of old.case.topology old.history) bounds =
     known_own ∙ ap (λ (h : List Entry). own_work old.case (run_of old.case.topology h) bounds) whole in
-    let raised = subst (λ (l : LeaseView). IsReported (own_view old) (own_view new) l own mark) same_lease reported_mark in
+    let raised = report.alone refl in
     raised.raised
     ∙ ap (λ (m : ℕ). with_mark held.lease.interval m old.marks) raised.answer
     ∙ ap (λ (o : ℕ). with_mark held.lease.interval (reported old.case.topology held.lease.interval o old.marks) old.marks) work

@@ -17,19 +17,19 @@ use Rattle.topology.specs.Shapes.{Shape, injectors_of, parts_of}
 use Rattle.row_parts.specs.Contents.{IsId, is_finished, cursor_in, found_delivery}
 use Rattle.run_history.specs.Cases.{CaseShape, intervals_of, source_of}
 use Rattle.run_history.specs.Watermarks.{least, low_watermark}
-use Rattle.run_history.specs.Marks.{own_work}
-use Rattle.run_history.specs.Runs.{Run, cached, row_of, run_of}
+use Rattle.run_history.specs.Runs.{Run, row_of, run_of}
 use Rattle.run_history.specs.Finished.{all_pending, injectors_left, is_handled}
 use Rattle.run_history.specs.Fences.{Begins, IsCurrent, interval_of}
 use Rattle.watermark.specs.Marks.{feeding_marks, marks_of}
 use Rattle.book.specs.Books.{BookView}
-use Rattle.book.specs.Conditions.{IsOwnWork}
 use Rattle.book.specs.DeskReasons.{IsDamageOf}
 use Rattle.book.specs.OwnDesks.{own_view}
 use Rattle.book.specs.Proposals.{IsEntryOf}
 use Rattle.book.specs.declared.desk_refusal.DeskRefusal.{DeskRefusal}
 use Rattle.book.specs.declared.desk_refusal.DeskRefusal.TheVariants as refusals
 use Rattle.book.specs.declared.proposal.Proposal.{Proposal}
+use Rattle.book.specs.declared.writing.Writing.{Writing}
+use Rattle.book.specs.declared.writing.Writing.TheVariants as writings
 use Rattle.holdings.specs.Holding.{HeldView, held_at, held_on, row_held}
 use Rattle.node.specs.Answers.{refusal_of}
 use Rattle.node.specs.Asking.{Request}
@@ -160,6 +160,12 @@ pub record HasProposed (old new : BookView) (seq : ℕ) (name : RowName) (propos
   pub of_proposal : IsEntryOf old.case seq name proposal entry
   pub stepped : HasStepped old new (Some entry)
 
+-- this was written of a row, under this sequencer: its entry was appended
+abbrev pub HasPutOwn : BookView → BookView → ℕ → RowName → Writing → Type 0
+HasPutOwn old new seq name (writings.Propose proposal) = HasProposed old new seq name proposal.now
+HasPutOwn old new seq name (writings.Settle id) = HasStepped old new (Some (entries.Ack seq name id))
+HasPutOwn old new seq name (writings.Purge floor) = HasStepped old new (Some (entries.Purge seq name floor))
+
 -- no drain has ended at a history
 abbrev pub IsUnended : CaseShape → List Entry → Type 0
 IsUnended case history = (from : ℕ) → HasEnded case from history → ⊥
@@ -277,14 +283,6 @@ abbrev pub IsFedBy : BookView → ℕ → ℕ → Type 0
 IsFedBy book part most = (interval : ℕ) (bounds : Bounds) →
     slice_get (intervals_of book.case.topology) interval ≡ Some bounds → bounds.part ≡ part →
     most ≡ least (feeding_marks book.case.topology interval book.marks)
-
--- this is the own work of what is held of an interval, as it is held and as it is known
-pub record IsOwnOf (book : BookView) (all : List (Option HeldView)) (interval own : ℕ) : Type 0 where
-  pub of_rows : (held : HeldView) (bounds : Bounds) → held_at all interval ≡ Some held →
-      slice_get (intervals_of book.case.topology) interval ≡ Some bounds →
-      own ≡ own_work book.case (cached held.rows) bounds
-  pub known : (held : HeldView) → held_at all interval ≡ Some held → let desk = own_view book in
-      IsOwnWork book.case desk.told desk.seen held.lease own
 
 -- ---- a record that is handled
 

@@ -14,14 +14,15 @@ ghost use Rattle.watermark.specs.Marks.{feeding_marks, marks_of};
 ghost use Rattle.node.specs.Asking.{IsNextTimer, MayAskFire};
 ghost use Rattle.node.specs.FireSteps.{IsLeftByHandler, IsSetAt, IsTimerToFire};
 ghost use Rattle.world.specs.drains.ReportRounds.{marks_after_round};
-ghost use Rattle.world.specs.drains.Turns.{AreExact, HasAskedOne, HasFailed, HasReported, HasStepped, HasTurned, IsAtWork, IsFedBy, IsFullAsking, IsFullUnended, IsOwnOf, IsQuiet, IsSettled, WhereTold, worker_of};
+ghost use Rattle.world.specs.drains.Turns.{AreExact, HasAskedOne, HasFailed, HasReported, HasStepped, HasTurned, IsAtWork, IsFedBy, IsFullAsking, IsFullUnended, IsQuiet, IsSettled, WhereTold, worker_of};
 
-use crate::drains::writes::write;
-use book::{Book, Desk, OwnDesk, Proposal};
+use crate::drains::writes::{fault_of, put};
+use book::{Book, Desk, OwnDesk, Proposal, Writing};
 use computations::Computation;
 use holdings::{Holdings, RowTimer};
-use mw_types::{END, Effects, NoMemory};
+use mw_types::{END, Effects};
 use node::{NodeFault, effects_of, first_due};
+use outbox::report_work;
 use row_keeper::Keeper;
 use std::alloc::Global;
 use watermark::{inputs, low};
@@ -108,7 +109,7 @@ fn report<'a, K: Keeper>(
     raise(alloc, book, held, interval)
 }
 
-// Reports the own work of one interval.
+// Reports the own work of one interval, which no other's turn and no later claim refuses.
 fn raise<'a, K: Keeper>(
     alloc: Global,
     book: &mut Book<'a, K>,
@@ -123,50 +124,17 @@ fn raise<'a, K: Keeper>(
     ensures failed { IfErr result (HasFailed book.old book.new) }
     ensures memory { IfErr result (λ why. why ≡ NodeFault.NoMemory) }
 {
-    let own = own_of(alloc, book, held, interval)?;
-    report_own(book, held, interval, own);
-    Ok(())
-}
-
-// The own work of an interval.
-fn own_of<'a, K: Keeper>(
-    alloc: Global,
-    book: &mut Book<'a, K>,
-    held: &mut Holdings,
-    interval: u32,
-) -> Result<u64, NoMemory>
-    requires at_work { IsAtWork book.old (worker_of held.old) }
-    requires there { interval < interval_count book.old.case.topology }
-    ensures own { IfOk result (IsOwnOf book.old held.old interval) }
-    ensures held { held.new ≡ held.old }
-    ensures book { book.new ≡ book.old }
-{
     let case = book.case();
     // Every topology keeps the rules that intervals need.
     let _parts = case.topology.parts();
     let _all = case.intervals();
-    let desk = OwnDesk { book };
-    held.own_work(alloc, &desk, case, interval)
-}
-
-// Reports own work of an interval that was found, which no other's turn and no later claim refuses.
-fn report_own<'a, K: Keeper>(book: &mut Book<'a, K>, held: &Holdings, interval: u32, own: u64)
-    requires at_work { IsAtWork book.old (worker_of held.now) }
-    requires there { interval < interval_count book.old.case.topology }
-    requires own { IsOwnOf book.old held.now interval own }
-    ensures stepped { HasStepped book.old book.new None }
-    ensures at_work { IsAtWork book.new (worker_of held.now) }
-    ensures reported { WhereTold book.old (HasReported book.old book.new interval) }
-{
-    // Every topology keeps the rules that intervals need.
-    let _parts = book.case().topology.parts();
     let mut desk = OwnDesk { book };
     desk.sound();
-    let reported = desk.report(held.get(interval).unwrap().lease(), own);
+    let reported = report_work(held, alloc, &mut desk, case, interval);
     desk.sound();
     match reported {
-        Ok(_) => {}
-        Err(_) => unreachable!(),
+        Ok(_) => Ok(()),
+        Err(why) => Err(fault_of(why)),
     }
 }
 
@@ -328,7 +296,10 @@ fn write_fire<'a, K: Keeper>(
         mark,
         effects,
     };
-    let written = write(alloc, book, held, interval, &found.name, &proposal);
+    let writing = Writing::Propose {
+        proposal: &proposal,
+    };
+    let written = put(alloc, book, held, interval, &found.name, writing);
     drop(proposal);
     written?;
     Ok(true)

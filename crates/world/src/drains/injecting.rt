@@ -1,16 +1,14 @@
 //! What a drain does where no timer is due: it injects a line.
-ghost use Rattle.std.specs.Prelude.{◌≡◌, ◌<◌, ℕ, IfErr, IfOk, OnOk, None, Some, length, true, false};
+ghost use Rattle.std.specs.Prelude.{◌≡◌, ◌<◌, ℕ, IfErr, IfOk, OnOk, None, Some, true, false};
 ghost use Rattle.topology.specs.Shapes.{injectors_of};
-ghost use Rattle.run_history.specs.Cases.{source_of};
 ghost use Rattle.node.specs.Asking.{line_asked};
 ghost use Rattle.world.specs.drains.Turns.{HasAsked, HasFailed, HasTurned, IsAtWork, IsBestLine, IsFullUnended, IsInjected, IsQuiet, IsSettled, WhereTold, cursor_at, lesser_line, line_at, worker_of};
 ghost use Rattle.node.specs.LineSteps.{injector_row};
 
-use crate::drains::least_work::row_of;
-use crate::drains::writes::write;
-use book::{Book, Proposal};
+use crate::drains::writes::put;
+use book::{Book, Proposal, Writing};
 use holdings::Holdings;
-use mw_types::{Key, RowName};
+use mw_types::RowName;
 use node::NodeFault;
 use row_keeper::Keeper;
 use run_history::Case;
@@ -54,7 +52,7 @@ fn inject<'a, K: Keeper>(
     ensures at_work { OnOk result (IsAtWork book.new (worker_of held.new)) }
     ensures failed { IfErr result (HasFailed book.old book.new) }
 {
-    let name = injector_row(alloc, part);
+    let name = Case::injector_row(alloc, part);
     let injected = inject_on(alloc, book, held, &name, line);
     drop(name);
     injected?;
@@ -84,19 +82,12 @@ fn inject_on<'a, K: Keeper>(
     let _parts = case.topology.parts();
     let interval = case.interval_of(name);
     let proposal = Proposal::Inject { line };
-    let written = write(alloc, book, held, interval, name, &proposal);
+    let writing = Writing::Propose {
+        proposal: &proposal,
+    };
+    let written = put(alloc, book, held, interval, name, writing);
     drop(proposal);
     written
-}
-
-// The name of an injector's row.
-fn injector_row(alloc: Global, part: u32) -> RowName
-    ensures { result ≡ injector_row part }
-{
-    RowName {
-        part,
-        key: Key::none(alloc),
-    }
 }
 
 // The least count of lines that were injected, of the injectors that have one left, and the
@@ -117,7 +108,7 @@ fn line(alloc: Global, case: &Case, held: &Holdings, part: u32) -> Option<(u32, 
     ensures { result ≡ line_at case.now (worker_of held.now) part }
 {
     let lines = cursor(alloc, case, held, part);
-    if lines < case.items.as_slice()[part as usize].count() {
+    if lines < case.lines(part) {
         Some((lines, part))
     } else {
         None
@@ -142,9 +133,9 @@ fn cursor(alloc: Global, case: &Case, held: &Holdings, part: u32) -> u32
 {
     // Every topology has its injectors among its parts.
     let _parts = case.topology.parts();
-    let name = injector_row(alloc, part);
-    match row_of(held, case.interval_of(&name), &name) {
-        Some(row) => row.cursor(),
+    let name = Case::injector_row(alloc, part);
+    match held.get(case.interval_of(&name)) {
+        Some(here) => here.cursor(&name),
         None => 0,
     }
 }

@@ -1,6 +1,6 @@
 //! What a drain does with the least id that is not acknowledged.
 ghost use Rattle.std.specs.Prelude.{◌≡◌, ◌<◌, ◌≤◌, IfErr, IfOk, IfSome, OnOk, Some, IsTrue, true, option_copied};
-ghost use Rattle.std.specs.Option.{is_some, option_and_then};
+ghost use Rattle.std.specs.Option.{option_and_then};
 ghost use Rattle.topology.specs.Shapes.{Shape, parts_of};
 ghost use Rattle.row_parts.specs.Contents.{same_id, found_delivery};
 ghost use Rattle.run_history.specs.Fences.{interval_of};
@@ -20,8 +20,8 @@ ghost use Rattle.world.specs.drains.Standings.{IsFound, StandsIn};
 ghost use Rattle.world.specs.drains.Turns.{CanBeKept, HasAsked, HasAskedOne, HasFailed, HasHandled, HasTurned, IsAtWork, WhereTold, is_full_at, sent_at, worker_of};
 
 use crate::drains::standing::{Standing, standing_of};
-use crate::drains::writes::{purge_row, settle, write};
-use book::{Book, Proposal};
+use crate::drains::writes::put;
+use book::{Book, Proposal, Writing};
 use computations::Computation;
 use holdings::Holdings;
 use mw_types::{Delivery, Duplicate, Effects, NoMemory, RecordId, RowName};
@@ -245,22 +245,14 @@ fn acknowledge<'a, K: Keeper>(
     ensures at_work { OnOk result (IsAtWork book.new (worker_of held.new)) }
     ensures failed { IfErr result (HasFailed book.old book.new) }
 {
-    if !is_pending(held, interval, sender, id) {
+    let Some(here) = held.get(interval) else {
+        return Ok(false);
+    };
+    if !here.is_pending(sender, id) {
         return Ok(false);
     }
-    settle(alloc, book, held, interval, sender, id)?;
+    put(alloc, book, held, interval, sender, Writing::Settle { id })?;
     Ok(true)
-}
-
-// Whether an id is pending in a row as it is held.
-fn is_pending(held: &Holdings, interval: u32, sender: &RowName, id: RecordId) -> bool
-    ensures { (shape : Shape) → interval_of shape sender.now ≡ Some interval →
-        result ≡ is_some (sent_at shape (worker_of held.now) sender.now id) }
-{
-    match row_of(held, interval, sender) {
-        Some(row) => row.is_pending(id),
-        None => false,
-    }
 }
 
 // Has a row that has 64 ids or more forget those that no sender sends again.
@@ -285,7 +277,7 @@ fn forget<'a, K: Keeper>(
     ensures failed { IfErr result (HasFailed book.old book.new) }
 {
     let floor = book.floor();
-    purge_row(alloc, book, held, interval, name, floor)?;
+    put(alloc, book, held, interval, name, Writing::Purge { floor })?;
     Ok(true)
 }
 
@@ -313,7 +305,10 @@ fn handle<'a, K: Keeper>(
     let proposal = Proposal::Handle { delivery, effects };
     let written = match &proposal {
         Proposal::Handle { delivery, .. } => {
-            write(alloc, book, held, interval, &delivery.to, &proposal)
+            let writing = Writing::Propose {
+                proposal: &proposal,
+            };
+            put(alloc, book, held, interval, &delivery.to, writing)
         }
         _ => unreachable!(),
     };

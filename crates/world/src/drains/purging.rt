@@ -11,8 +11,8 @@ ghost use Rattle.world.specs.drains.Turns.{HasAskedOne, HasFailed, HasTurned, Is
 ghost use Rattle.holdings.specs.Holding.{held_at};
 ghost use Rattle.holdings.specs.Purges.{IsFirstToPurge};
 
-use crate::drains::writes::purge_row;
-use book::Book;
+use crate::drains::writes::put;
+use book::{Book, Writing};
 use holdings::Holdings;
 use mw_types::{Duplicate, NoMemory, RowName};
 use node::NodeFault;
@@ -96,7 +96,8 @@ fn purge_found<'a, K: Keeper>(
 {
     match found {
         Some(name) => {
-            let purged = purge_row(alloc, book, held, interval, &name, floor);
+            let writing = Writing::Purge { floor };
+            let purged = put(alloc, book, held, interval, &name, writing);
             drop(name);
             purged?;
             Ok(true)

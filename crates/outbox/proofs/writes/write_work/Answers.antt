@@ -1,9 +1,16 @@
 use Rattle.std.proofs.Common.{ap}
 use Rattle.mw_types.specs.declared.identity.RowName.{RowName}
 use Rattle.run_history.specs.Made.{deliveries_made}
+use Rattle.holdings.specs.Holding.{held_at}
+use Rattle.holdings.proofs.HeldRows.{proposed-put}
 use Rattle.outbox.specs.declared.outgoing.Outgoing.TheVariants as outgoing
 use Rattle.outbox.proofs.PutLaws.{outbox-written}
 use Rattle.outbox.proofs.writes.write_work.Goals as goal
+
+-- what is proposed may be written
+pub put-requires-clause-may : goal.put-requires-clause-may
+put-requires-clause-may g c = proposed-put c.args.case.now (g.D.Desk.view c.args.desk.now) (held_at c.args.held.now c.args.interval)
+    c.args.parts.0.now.to c.args.proposal.now c.requires.case c.requires.proposal c.requires.known
 
 -- what is to be sent is in the outbox
 pub returns-clause-sent : goal.returns-clause-sent

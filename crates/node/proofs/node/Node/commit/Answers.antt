@@ -95,7 +95,7 @@ returns-in-Ok-clause-fits g c =
     subst (Fits case new) (node-written shape c.write_work-written.new.held work.sender delivery effects commit node c.unprepared.new.prepared c.write_work-written.new.outbox.messages
     c.unprepared.ensures c.in-Ok.ensures.sent)
     (Fits-committed case old new node c.write_work-written.new.held work delivery effects c.interval_of-interval.result commit is
-    parts c.in-Ok.ensures.written c.in-Ok.ensures.fits c.sound.ensures.sound c.in-Ok.ensures.addressed fits)
+    parts c.in-Ok.ensures.put c.in-Ok.ensures.fits c.sound.ensures.sound c.in-Ok.ensures.addressed fits)
 
 pub returns-in-Ok-clause-answers : goal.returns-in-Ok-clause-answers
 returns-in-Ok-clause-answers g c =
@@ -122,7 +122,7 @@ returns-in-Ok-clause-answers g c =
     (node-written shape c.write_work-written.new.held work.sender delivery effects commit node c.unprepared.new.prepared c.write_work-written.new.outbox.messages
     c.unprepared.ensures c.in-Ok.ensures.sent)
     (answers-written case old new node c.write_work-written.new.held work delivery effects c.interval_of-interval.result commit is
-    parts c.interval_of-interval.ensures.interval c.in-Ok.ensures.written
+    parts c.interval_of-interval.ensures.interval c.in-Ok.ensures.put
     (work-of case old node work delivery effects fits is parts).sent))
 
 pub returns-in-Ok-clause-grown : goal.returns-in-Ok-clause-grown
@@ -132,7 +132,7 @@ returns-in-Ok-clause-grown g c =
     let parts = ap (λ (w : WorkView). w.proposal) c.work.view_is ∙ c.parts-parts.ensures in
     subst (λ (n : NodeView). HasGrown n.held old new) c.self.view_is
     (grown-work c.args.case.now.topology old new c.interval_of-interval.result c.work.inside.proposal c.parts-parts.result.0.now c.parts-parts.result.1.now
-    c.in-Ok.commit c.self.inside.held c.write_work-written.new.held parts c.in-Ok.ensures.written)
+    c.in-Ok.commit c.self.inside.held c.write_work-written.new.held parts c.in-Ok.ensures.put)
 
 -- where the desk refused
 pub returns-in-Err-clause-fits : goal.returns-in-Err-clause-fits

@@ -1,24 +1,28 @@
-use Rattle.std.proofs.Common.{rules}
+use Rattle.std.proofs.Common.{refl, rules}
+use Rattle.book.specs.OwnDesks.{own_view}
+use Rattle.book.specs.declared.proposal.Proposal.TheVariants as proposals
+use Rattle.holdings.specs.Holding.{held_at}
+use Rattle.holdings.proofs.HeldRows.{proposed-put}
 use Rattle.node.proofs.FiringLaws.{fire-proposable, firing, may-fire}
 use Rattle.world.specs.drains.Turns.{worker_of}
 use Rattle.world.proofs.drains.CallLaws.{fire-asked}
 use Rattle.world.proofs.Results.{err-any}
 use Rattle.world.proofs.drains.firing.write_fire.Goals as goal
 
--- what its handler left may be written
-pub write-written-requires-clause-proposal : goal.write-written-requires-clause-proposal
-write-written-requires-clause-proposal g c =
-    fire-proposable c.args.book.now.case c.args.held.now c.args.interval c.args.found.now.name c.args.found.now.timer c.args.mark
-    c.args.effects c.requires.set (c.requires.left c.requires.set)
-
--- and it is due
-pub write-written-requires-clause-known : goal.write-written-requires-clause-known
-write-written-requires-clause-known g c = record { due = c.requires.next.due; under_marks = c.requires.known }
+-- what its handler left may be written, and it is due
+pub put-written-requires-clause-may : goal.put-written-requires-clause-may
+put-written-requires-clause-may g c =
+    let book = c.args.book.now in
+    let name = c.args.found.now.name in
+    let timer = c.args.found.now.timer in
+    proposed-put book.case (own_view book) (held_at c.args.held.now c.args.interval) name (proposals.Fire timer c.args.mark c.args.effects)
+    refl (fire-proposable book.case c.args.held.now c.args.interval name timer c.args.mark c.args.effects c.requires.set
+    (c.requires.left c.requires.set)) (record { due = c.requires.next.due; under_marks = c.requires.known })
 
 -- it has fired
 pub returns-clause-asked : goal.returns-clause-asked
 returns-clause-asked g c =
-    fire-asked c.args.book.now c.write-written.new.book c.args.held.now c.args.found.now.name c.args.found.now.timer c.args.mark
+    fire-asked c.args.book.now c.put-written.new.book c.args.held.now c.args.found.now.name c.args.found.now.timer c.args.mark
     c.args.interval c.args.effects c.requires.set c.requires.covers c.requires.next (c.requires.left c.requires.set) (search rules)
 
 -- one that fails was asked for

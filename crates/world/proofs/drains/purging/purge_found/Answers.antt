@@ -8,23 +8,23 @@ use Rattle.world.proofs.Results.{err-any}
 use Rattle.world.proofs.drains.purging.purge_found.Goals as goal
 
 -- the row lies in the interval
-pub purge_row-purged-requires-clause-covers : goal.purge_row-purged-requires-clause-covers
-purge_row-purged-requires-clause-covers g c =
+pub put-purged-requires-clause-covers : goal.put-purged-requires-clause-covers
+put-purged-requires-clause-covers g c =
     let first : IsToPurge c.args.book.now.case.topology (worker_of c.args.held.now) c.args.interval 1 c.args.floor (Some c.in-Some.name) =
     search rules in
     let may = first-may c.args.book.now.case.topology c.args.held.now c.args.interval c.args.floor c.in-Some.name first in
     may.2
 
 -- and is of a part that is there
-pub purge_row-purged-requires-clause-part : goal.purge_row-purged-requires-clause-part
-purge_row-purged-requires-clause-part g c =
+pub put-purged-requires-clause-part : goal.put-purged-requires-clause-part
+put-purged-requires-clause-part g c =
     let first : IsToPurge c.args.book.now.case.topology (worker_of c.args.held.now) c.args.interval 1 c.args.floor (Some c.in-Some.name) =
     search rules in
     first.0
 
 -- it may forget
-pub purge_row-purged-requires-clause-floor : goal.purge_row-purged-requires-clause-floor
-purge_row-purged-requires-clause-floor g c =
+pub put-purged-requires-clause-may : goal.put-purged-requires-clause-may
+put-purged-requires-clause-may g c =
     let first : IsToPurge c.args.book.now.case.topology (worker_of c.args.held.now) c.args.interval 1 c.args.floor (Some c.in-Some.name) =
     search rules in
     let may = first-may c.args.book.now.case.topology c.args.held.now c.args.interval c.args.floor c.in-Some.name first in
@@ -36,7 +36,7 @@ pub returns-in_ok-purged-in-Some-clause-asked : goal.returns-in_ok-purged-in-Som
 returns-in_ok-purged-in-Some-clause-asked g c =
     let first : IsToPurge c.args.book.now.case.topology (worker_of c.args.held.now) c.args.interval 1 c.args.floor (Some c.in-Some.name) =
     search rules in
-    purge-asked c.args.book.now c.purge_row-purged.new.book c.args.held.now c.in-Some.name c.args.interval c.args.floor first
+    purge-asked c.args.book.now c.put-purged.new.book c.args.held.now c.in-Some.name c.args.interval c.args.floor first
     (search rules)
 
 -- a purge that fails was asked for
