@@ -115,17 +115,13 @@ impl History {
 }
 
 // Appends an entry whose details are the last, which are taken away where memory ran out.
-fn append(
-    details: &mut Details,
-    entries: &mut Seq<Packed>,
-    packed: Packed,
-) -> Result<(), NoMemory>
+fn append(details: &mut Details, entries: &mut Seq<Packed>, packed: Packed) -> Result<(), NoMemory>
     requires name { HasName details.old.names packed }
     requires last { IsLast (counts_of details.old) packed }
-    ensures appended { OnOk result (entries.new ≡ entries.old ++ packed ∷ []) }
-    ensures kept { OnOk result (details.new ≡ details.old) }
-    ensures unchanged { OnErr result (entries.new ≡ entries.old) }
-    ensures without { OnErr result (IsWithout packed details.old details.new) }
+    ensures appended { OnOk result
+        ((details.new ≡ details.old) × (entries.new ≡ entries.old ++ packed ∷ [])) }
+    ensures unchanged { OnErr result
+        (IsWithout packed details.old details.new × (entries.new ≡ entries.old)) }
 {
     if let Err(NoMemory) = entries.push(packed) {
         drop(details.unpack(packed));

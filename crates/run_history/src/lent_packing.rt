@@ -6,7 +6,7 @@ ghost use Rattle.run_history.specs.Packing.{HasNumbers, IsNext, IsPacked, KeepsD
 use crate::details::Details;
 use crate::entry_ref::EntryRef;
 use crate::packed::{Numbers, Packed};
-use mw_types::NoMemory;
+use mw_types::{Duplicate, NoMemory};
 use std::alloc::Global;
 
 impl Details {
@@ -48,7 +48,10 @@ impl Details {
         match *entry {
             EntryRef::Claim { worker, interval } => Ok(Packed::Claim { worker, interval }),
             EntryRef::Inject {
-                part, line, item, ..
+                part,
+                line,
+                item,
+                ..
             } => self.pack_inject(seq, part, line, item.copy(alloc)?),
             EntryRef::Handle { id, effects, .. } => {
                 self.pack_handle(numbers, id.index, effects.copy(alloc)?)
