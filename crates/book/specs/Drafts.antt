@@ -21,7 +21,7 @@ pub record IsAdmitted (book : BookView) (lease : LeaseView) (commit : ℕ) : Typ
   pub lawful : IsLawful book.case (core_of book)
   pub last : IsCurrent lease.interval lease.seq book.history
   pub room : length book.history < book.limit
-  pub commit : commit ≡ length book.history
+  pub number : commit ≡ length book.history
   pub below : commit < 2 ^ 32
 
 -- a row with a draft in it, which the entry of this number put there

@@ -2,6 +2,7 @@
 ghost use Rattle.std.specs.Prelude.{◌≡◌, ◌++◌, ◌∷◌, ◌<◌, ◌≤◌, ◌^◌, All, [], IfOk, IfSome, IsTrue, OnOk, Some, false, length, true};
 ghost use Rattle.std.specs.Option.{option_map, unwrap_or};
 ghost use Rattle.mw_types.specs.declared.TheConstants.{MAX_STAMP};
+ghost use Rattle.mw_types.specs.declared.record.Production.{Production};
 ghost use Rattle.injector.specs.Sources.{item_at};
 ghost use Rattle.topology.specs.Shapes.{parts_of};
 ghost use Rattle.row_parts.specs.Contents.{AreTimers, IsId, is_finished, without_timer};
@@ -40,8 +41,11 @@ pub(crate) fn injecting(
         option_map record_of (item_at (source_of case.now name.now.part) line) ≡ Some made.0) }
     ensures may { IfOk result (λ made. MayDraft row.now made.1) }
     ensures left { IfOk result (λ made.
-        let made_of = record { key = made.0.key; stamp = made.0.stamp; value = made.0.value } in
-        let sent = deliveries_made case.now.topology name.now.part (made_of ∷ []) made.0.late commit in
+        let item = made.0 in
+        let production : Production
+        = record { key = item.key; stamp = item.stamp; value = item.value } in
+        let sent = deliveries_made case.now.topology name.now.part
+        (production ∷ []) item.late commit in
         drafted made.1 commit row.now ≡ record row.now {
           state = advanced row.now.state;
           pending = row.now.pending ++ sent;
