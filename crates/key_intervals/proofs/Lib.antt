@@ -1,5 +1,3 @@
 pub mod Beginnings
 pub mod Lookup
 pub mod Made
-pub mod Firsts
-pub mod Among
