@@ -1,3 +1,17 @@
+pub mod KeyOrder
 pub mod Beginnings
 pub mod Lookup
+pub mod CutLaws
+pub mod GivenLists
+pub mod Exchanged
+pub mod SplitLaws
+pub mod MergeLaws
+pub mod Steps
+pub mod OrderLaws
+pub mod Orders
+pub mod SplitOrder
+pub mod MergeOrder
+pub mod Found
 pub mod Made
+pub mod First
+pub mod FirstOrders

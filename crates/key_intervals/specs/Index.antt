@@ -47,7 +47,7 @@ orders_from n (p ∷ ps) =
 
 -- what stands in the place of a number after a split that gave these two: both in that of the interval that has ended
 abbrev pub after_split : ℕ → ℕ → ℕ → List ℕ
-after_split ended first interval = if interval == ended then first ∷ first + 1 ∷ [] else interval ∷ []
+after_split ended first interval = if interval == ended then first ∷ (first + 1) ∷ [] else interval ∷ []
 
 -- what stands in the place of a number after a merge that gave this one: it in that of the lower interval
 abbrev pub after_merge : ℕ → ℕ → ℕ → ℕ → List ℕ
