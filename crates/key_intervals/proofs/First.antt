@@ -30,9 +30,10 @@ use Rattle.key_intervals.proofs.Made.{intervals_of}
 -- the intervals of a part from a key on have each row of the part from that key on
 row-from : (part : ℕ) (from : List ℕ) (cuts : List (List ℕ)) (name : RowName) → part ≡ name.part → is_le (key_cmp from name.key) ≡ true
     → (k : ℕ) × HasRow (bounds_from part from cuts) k name
-row-from part from [] name of begins = (0, (record { part = part; from = from; to = None }, refl, has_row _ name of begins refl))
+row-from part from [] name of begins =
+    let whole : Bounds = record { part = part; from = from; to = None } in (0, (whole, refl, has_row whole name of begins refl))
 row-from part from (cut ∷ cuts) name of begins = elim (cases_Bool (is_lt (key_cmp name.key cut))) [
-  | inl less ↦ (0, (record { part = part; from = from; to = Some cut }, refl, has_row _ name of begins less))
+  | inl less ↦ let first : Bounds = record { part = part; from = from; to = Some cut } in (0, (first, refl, has_row first name of begins less))
   | inr not ↦ let rest = row-from part cut cuts name of (not_below name.key cut not) in (suc rest.0, rest.1)
 ]
 

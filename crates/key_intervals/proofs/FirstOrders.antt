@@ -53,7 +53,7 @@ range-contains a (suc n) zero less = (0, omega arith, omega arith)
 range-contains a (suc n) (suc k) less =
     let rest = range-contains (a + 1) n k (omega (arith, less)) in
     let one : a + 1 + k ≡ a + suc k = omega arith in
-    subst (Contains (a ∷ range_with_len (a + 1) n)) one (rest.0 + 1, omega (arith, rest.1), rest.2)
+    subst (Contains (a ∷ range_with_len (a + 1) n)) one (suc rest.0, omega (arith, rest.1), rest.2)
 
 -- ---- the order of one part
 

@@ -7,7 +7,7 @@ use Rattle.std.specs.declared.cmp.Ordering.TheVariants.{Less}
 use Rattle.std.proofs.lemmas.Bool.{cases_order}
 use Rattle.std.proofs.lemmas.List.{get_or_default}
 use Rattle.std.proofs.lemmas.List.Elements.{All-from_recursion}
-use Rattle.std.proofs.lemmas.Option.{slice_get-get_or, slice_get_within}
+use Rattle.std.proofs.lemmas.Option.{slice_get-get_or, slice_get_read, slice_get_within}
 use Rattle.list_lemmas.proofs.Lists.{each-weaker}
 use Rattle.list_lemmas.proofs.Places.{each-at}
 use Rattle.mw_types.specs.Orders.{key_cmp}
@@ -16,11 +16,17 @@ use Rattle.key_intervals.specs.declared.bounds.Bounds.{Bounds}
 use Rattle.key_intervals.specs.declared.given.Given.{Given}
 use Rattle.key_intervals.specs.Intervals.{covers, ends_after}
 use Rattle.key_intervals.specs.Division.{fresh, AreDivided, HasLive}
-use Rattle.key_intervals.specs.Index.{begins_by_key, from_of, BeginsBefore, IsLastBegun, IsOfPart, IsOrder}
+use Rattle.key_intervals.specs.Index.{begins_by_key, from_of, AreOrders, BeginsBefore, IsLastBegun, IsOfPart, IsOrder}
 use Rattle.key_intervals.proofs.KeyOrder.{below_is_upto, ends_before, upto_upto}
 use Rattle.key_intervals.proofs.Lookup.{begins_upto, goes_past, of_part}
 use Rattle.key_intervals.proofs.OrderLaws.{from-is, ordered-get}
 use Rattle.key_intervals.proofs.Orders.{ends-by}
+
+-- the order of a part that is there
+pub order-there : (given : List Given) (orders : List (List ℕ)) (part : ℕ) (own numbers : List ℕ) → AreOrders given orders
+    → part < length orders → own ≡ get_or orders part own → numbers ≡ own → IsOrder given part numbers
+order-there given orders part own numbers kept there at is =
+    kept.each part numbers (slice_get_read orders (length orders) part own refl there at ∙ ap Some (sym is))
 
 module _ (parts : ℕ) (given : List Given) (numbers : List ℕ) (name : RowName) (are : AreDivided parts given)
     (order : IsOrder given name.part numbers) (there : name.part < parts) where

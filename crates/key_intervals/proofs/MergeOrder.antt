@@ -114,13 +114,14 @@ module _ (given : List Given) (low high : ℕ) (may : MayMerge given low high) (
           (order-of_heirs given after may.lower.part order heirs (kept.each may.lower.part order at) merge-heirs))
 
 -- a merge of intervals with their orders keeps both
-pub merge-kept : (given : List Given) (low high : ℕ) (orders : List (List ℕ)) (part : ℕ) (old new : List ℕ)
+pub merge-kept : (given : List Given) (low high : ℕ) (orders : List (List ℕ)) (part first : ℕ) (old new : List ℕ)
     → AreDivided (length orders) given → AreOrders given orders → merge_refusal given low high ≡ None
     → option_map (λ (b : Bounds). b.part) (bounds_at given low) ≡ Some part → old ≡ get_or orders part old
-    → new ≡ flat_map (after_merge low high (length given)) old
+    → first ≡ length given → new ≡ flat_map (after_merge low high first) old
     → AreDivided (length (set orders part new)) (once_merged low high given) × AreOrders (once_merged low high given) (set orders part new)
-merge-kept given low high orders part old new are kept none of at is =
+merge-kept given low high orders part first old new are kept none of at next made =
     let may = may-merge given low high none in
+    let is : new ≡ flat_map (after_merge low high (length given)) old = made ∙ ap (λ n. flat_map (after_merge low high n) old) next in
     let same : may.lower.part ≡ part = some_same may.lower.part part
     (sym (ap (λ (o : Option Given). option_map (λ (b : Bounds). b.part) (option_map (λ (g : Given). g.bounds) o)) may.low_there) ∙ of) in
     let inside : part < length orders = omega (arith, kept.there low (fresh may.lower) may.low_there, same) in

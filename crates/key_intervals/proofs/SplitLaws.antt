@@ -4,7 +4,7 @@ use Rattle.std.specs.Prelude.{Option, nat_le, nat_lt, slice_get}
 use Rattle.std.specs.Option.{option_map, option_map_or}
 use Rattle.std.specs.Ordering.{is_lt}
 use Rattle.std.specs.declared.cmp.Ordering.TheVariants.{Less}
-use Rattle.std.proofs.lemmas.Bool.{eq-eqb, eqb-true, ltb-false, and_parts, not-false}
+use Rattle.std.proofs.lemmas.Bool.{eq-eqb, eqb-true, ltb-false}
 use Rattle.list_lemmas.proofs.Lists.{none_some, some_same}
 use Rattle.list_lemmas.proofs.Tests.{less_from_test}
 use Rattle.mw_types.specs.Orders.{key_cmp}
@@ -30,6 +30,12 @@ pub live-at : (o : Option Given) → option_map_or (λ (g : Given). g.live) o fa
 live-at None live = absurd (true≢false (sym live))
 live-at (Some g) live = (g.bounds, ap (λ (l : Bool). Some (record g { live = l })) live)
 
+-- where three tests pass, the last two do
+last-two : (a b c : Bool) → (a && b && c) ≡ true → (b ≡ true) × (c ≡ true)
+last-two true true c pass = (refl, pass)
+last-two true false c pass = absurd (true≢false (sym pass))
+last-two false b c pass = absurd (true≢false (sym pass))
+
 -- an interval that may be split: it is live, and the cut is within
 pub record MaySplit (given : List Given) (interval : ℕ) (cut : List ℕ) : Type 0 where
   pub bounds : Bounds
@@ -47,8 +53,7 @@ may-split injectors given interval cut none =
     let live = live-at (slice_get given interval) first.0 in
     let may : may_cut injectors cut live.0 ≡ true =
     ap (λ (o : Option Given). option_map_or (may_cut injectors cut) (option_map (λ (g : Given). g.bounds) o) false) (sym live.1) ∙ next.0 in
-    let within = and_parts (nat_le injectors live.0.part) (is_lt (key_cmp live.0.from cut) && ends_after live.0.to cut) may in
-    let both = and_parts (is_lt (key_cmp live.0.from cut)) (ends_after live.0.to cut) within.1 in record {
+    let both = last-two (nat_le injectors live.0.part) (is_lt (key_cmp live.0.from cut)) (ends_after live.0.to cut) may in record {
       bounds = live.0;
       there = live.1;
       above = less_from_test (key_cmp live.0.from cut) both.0;

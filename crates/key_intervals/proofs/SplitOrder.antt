@@ -86,7 +86,7 @@ module _ (given : List Given) (interval : ℕ) (cut : List ℕ) (may : MaySplit 
   each-heir : (n : ℕ) → IsOfPart given may.bounds.part n → (t : Bool) → (n == interval) ≡ t
       → AllByRecursion (IsHeir given after may.bounds.part n) (heirs n)
   each-heir n of true same = subst (AllByRecursion (IsHeir given after may.bounds.part n)) (sym (heirs-split n same))
-      (low-heir n (eqb-true n interval same), high-heir n (eqb-true n interval same), tt)
+      (low-heir n (eqb-true n interval same), (high-heir n (eqb-true n interval same), tt))
   each-heir n of false other = subst (AllByRecursion (IsHeir given after may.bounds.part n)) (sym (heirs-kept n other))
       (kept-heir given after may.bounds.part n of.0 of.1
       (live-kept (λ i. i == interval) given (once_ended interval given) (halves_at given interval cut may) (one-ended interval given)
@@ -153,13 +153,14 @@ module _ (given : List Given) (interval : ℕ) (cut : List ℕ) (may : MaySplit 
           (order-of_heirs given after may.bounds.part order heirs (kept.each may.bounds.part order at) split-heirs))
 
 -- a split of intervals with their orders keeps both
-pub split-kept : (injectors : ℕ) (given : List Given) (interval : ℕ) (cut : List ℕ) (orders : List (List ℕ)) (part : ℕ) (old new : List ℕ)
+pub split-kept : (injectors : ℕ) (given : List Given) (interval : ℕ) (cut : List ℕ) (orders : List (List ℕ)) (part first : ℕ) (old new : List ℕ)
     → AreDivided (length orders) given → AreOrders given orders → split_refusal injectors given interval cut ≡ None
     → option_map (λ (b : Bounds). b.part) (bounds_at given interval) ≡ Some part → old ≡ get_or orders part old
-    → new ≡ flat_map (after_split interval (length given)) old
+    → first ≡ length given → new ≡ flat_map (after_split interval first) old
     → AreDivided (length (set orders part new)) (once_split interval cut given) × AreOrders (once_split interval cut given) (set orders part new)
-split-kept injectors given interval cut orders part old new are kept none of at is =
+split-kept injectors given interval cut orders part first old new are kept none of at next made =
     let may = may-split injectors given interval cut none in
+    let is : new ≡ flat_map (after_split interval (length given)) old = made ∙ ap (λ n. flat_map (after_split interval n) old) next in
     let same : may.bounds.part ≡ part = some_same may.bounds.part part
     (sym (ap (λ (o : Option Given). option_map (λ (b : Bounds). b.part) (option_map (λ (g : Given). g.bounds) o)) may.there) ∙ of) in
     let inside : part < length orders = omega (arith, kept.there interval (fresh may.bounds) may.there, same) in

@@ -1,11 +1,14 @@
 -- What the code of a split and of a merge makes, step by step.
-use Rattle.std.proofs.Common.{◌≡◌, ◌<◌, ◌-◌, ◌+◌, ◌∙◌, ◌++◌, ◌∷◌, [], ℕ, zero, suc, List, false, Some, None, length, get_or, set, arith, refl, sym, ap, append_assoc, length-append}
+use Rattle.std.proofs.Common.{◌≡◌, ◌<◌, ◌≤◌, ◌-◌, ◌+◌, ◌∙◌, ◌++◌, ◌∷◌, [], ℕ, zero, suc, List, false, Some, None, length, get_or, set, arith, refl, sym, ap, append_assoc, length-append, map, drop, drop-cons}
 use Rattle.std.specs.Prelude.{Option, slice_get}
 use Rattle.std.specs.Option.{option_map, option_map_or}
 use Rattle.std.specs.List.{range_with_len}
 use Rattle.std.proofs.lemmas.Option.{slice_get_read}
+use Rattle.std.proofs.lemmas.List.{length-map}
+use Rattle.mw_types.specs.declared.key.PartCuts.{PartCuts}
 use Rattle.key_intervals.specs.declared.bounds.Bounds.{Bounds}
 use Rattle.key_intervals.specs.declared.given.Given.{Given}
+use Rattle.key_intervals.specs.Intervals.{bounds_of, part_bounds_of}
 use Rattle.key_intervals.specs.Division.{bounds_at, fresh, joined, lower_of, once_ended, once_merged, once_split, upper_of}
 use Rattle.key_intervals.proofs.GivenLists.{ended-append, length-ended}
 
@@ -65,3 +68,14 @@ merge-made low high given roomy more one made g h b low_less high_less same low_
         ∙ ended-append low given (fresh b ∷ []) low_less) ∙ ended-append high (once_ended low given) (fresh b ∷ []) within in
     whole ∙ ap (λ (c : Bounds). once_ended high (once_ended low given) ++ fresh c ∷ []) is
     ∙ sym (rw (low_there, high_there))
+
+-- while parts are left there is room for the intervals of the next
+pub room-left : (parts : List PartCuts) (all : List Given) (i most : ℕ) (part : PartCuts) → i < length parts → part ≡ get_or parts i part
+    → map fresh (bounds_of parts) ≡ all ++ map fresh (bounds_of (drop i parts)) → length (bounds_of parts) ≤ most
+    → length all + length (part_bounds_of part) ≤ most
+room-left parts all i most part less is whole few =
+    let left : drop i parts ≡ part ∷ drop (suc i) parts =
+    drop-cons parts i part less ∙ ap (λ (p : PartCuts). p ∷ drop (suc i) parts) (sym is) in
+    let rest = bounds_of (drop (suc i) parts) in
+    omega (arith, few, length-map (bounds_of parts) fresh, ap length whole, length-append all (map fresh (bounds_of (drop i parts))),
+    length-map (bounds_of (drop i parts)) fresh, ap (λ (ps : List PartCuts). length (bounds_of ps)) left, length-append (part_bounds_of part) rest)
