@@ -8,7 +8,7 @@ use Rattle.mw_types.specs.declared.identity.RowName.{RowName}
 use Rattle.mw_types.specs.declared.record.Production.{Production}
 use Rattle.topology.specs.Rules.{IsTopology}
 use Rattle.topology.specs.Shapes.{consumers_of, stream_of, injectors_of}
-use Rattle.row_parts.specs.Contents.{Contents, IsId, IsRow, delivery_cmp, is_finished}
+use Rattle.row_parts.specs.Contents.{ArePending, Contents, IsId, delivery_cmp, is_finished}
 use Rattle.run_history.specs.Cases.{CaseShape}
 use Rattle.run_history.specs.Fits.{fits}
 use Rattle.run_history.specs.Made.{deliveries_made}
@@ -21,7 +21,7 @@ use Rattle.book.proofs.SentLaws.{sent-ids, sent-stamps, pending-sent}
 -- a draft may be put into a row, whose deliveries are those that an entry makes
 pub may-send : (case : CaseShape) (commit : ℕ) (name : RowName) (row : Contents) (draft : Draft) (productions : List Production)
     (late : Bool)
-    → IsRow row → fits case commit name row ≡ true → commit < 2 ^ 32 → IsTopology case.topology
+    → ArePending row.pending → fits case commit name row ≡ true → commit < 2 ^ 32 → IsTopology case.topology
     → AreOwn draft.own → IfSome draft.id IsId → IfSome draft.id (λ id. is_finished id row ≡ false)
     → length productions ≤ 8 → All (λ (p : Production). p.stamp ≤ MAX_STAMP) productions
     → draft.sent ≡ deliveries_made case.topology name.part productions late commit
@@ -41,5 +41,5 @@ may-send case commit name row draft productions late is fit small rules own id n
       stamps = subst (All (λ (d : Delivery). d.item.stamp ≤ MAX_STAMP)) (sym sent)
           (sent-stamps shape name.part productions late commit stamps);
       ascending = subst (λ (l : List Delivery). IsStrictlySortedBy delivery_cmp (row.pending ++ l)) (sym sent)
-          (pending-sent shape name.part productions late commit row.pending is.pending.ascending (fits-parts case commit name row fit).1);
+          (pending-sent shape name.part productions late commit row.pending is.ascending (fits-parts case commit name row fit).1);
     }

@@ -1,18 +1,20 @@
 -- What a write in place appends.
-use Rattle.std.proofs.Common.{◌≡◌, ◌<◌, ◌^◌, ℕ, [], length, take, arith, sym, ap, subst, refl, ◌∙◌}
-use Rattle.std.specs.Prelude.{IfSome}
+use Rattle.std.proofs.Common.{◌≡◌, ◌++◌, ◌∷◌, ℕ, [], length, take, arith}
+use Rattle.std.specs.Prelude.{IfOk, IfSome, OnOk, Result}
 use Rattle.mw_types.specs.declared.entry.Entry.{Entry}
 use Rattle.mw_types.specs.declared.identity.RowName.{RowName}
-use Rattle.row_parts.specs.Contents.{Contents, IsRow, ids_from}
+use Rattle.row_parts.specs.Contents.{Contents}
 use Rattle.run_history.specs.Runs.{run_of}
+use Rattle.book.specs.Answers.{answer_of}
 use Rattle.book.specs.Appending.{IsNext}
 use Rattle.book.specs.Books.{BookView, LeaseView, core_of}
 use Rattle.book.specs.Conditions.{IsRowSeenAt, MayUseAt}
 use Rattle.book.specs.Drafts.{IsAdmitted, IsDrafting, MayDraft, drafted}
-use Rattle.book.specs.Proposals.{IsEntryOf, IsProposable, IsProposedOf, left_by}
+use Rattle.book.specs.Proposals.{IsEntryOf, IsProposable, IsProposedOf, IsWrittenBy, left_by}
 use Rattle.book.specs.declared.drafts.Draft.{Draft}
 use Rattle.book.specs.declared.proposal.Proposal.{Proposal}
-use Rattle.book.proofs.ProposalLaws.{IsNext-proposed}
+use Rattle.book.specs.declared.refusals.WriteRefusal.{WriteRefusal}
+use Rattle.book.proofs.ProposalLaws.{IsNext-proposed, IsWrittenBy-result}
 use Rattle.book.proofs.SeenRows.{row-was}
 use Rattle.book.proofs.SentCounts.{left-more}
 
@@ -35,3 +37,21 @@ IsDrafting-proposed book lease front name row draft commit proposal entry admitt
       sent = omega (arith, more);
       was = row-was book lease front name row admitted.lawful uses seen admitted.last;
     }
+
+-- and was accepted, by what putting the draft answered
+pub IsWrittenBy-drafted : (old new : BookView) (lease : LeaseView) (front : ℕ) (name : RowName) (row after : Contents) (draft : Draft)
+    (commit : ℕ) (proposal : Proposal) (entry : Entry) (result : Result ℕ WriteRefusal)
+    → IsAdmitted old lease commit → MayUseAt old lease front name → IsRowSeenAt old lease front name row
+    → IsProposable old.case name row proposal
+    → IfSome old.rows (λ _. IsProposedOf old.case name proposal (run_of old.case.topology (take front old.history)))
+    → IsEntryOf old.case lease.seq name proposal entry
+    → drafted draft commit row ≡ left_by old.case.topology name proposal (length old.history) entry row
+    → OnOk result (new.history ≡ old.history ++ entry ∷ []) → IfOk result (λ n. n ≡ length old.history)
+    → OnOk result (after ≡ drafted draft commit row)
+    → IfOk result (λ n. IsWrittenBy old.case old.rows old.history new.history lease name proposal row (answer_of n after))
+IsWrittenBy-drafted old new lease front name row after draft commit proposal entry result admitted uses seen proposable told of leaves
+    appended number changed =
+    let left = drafted draft commit row in
+    IsWrittenBy-result old new lease name proposal row left after entry result
+    (IsNext-proposed old lease front name row left proposal entry admitted.lawful uses seen admitted.last admitted.room proposable told of leaves)
+    admitted.last of leaves appended number changed

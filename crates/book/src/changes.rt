@@ -161,6 +161,7 @@ fn sending(
     ensures made { let sent = deliveries_made case.now.topology name.now.part made.now late commit in
         IfOk result (λ draft. draft ≡ record { own = own; id = id; sent = sent }) }
 {
+    row.sound();
     match sent(alloc, case, name.part, made, late, commit) {
         Ok(sent) => Ok(Draft { own, id, sent }),
         Err(want) => {
