@@ -6,8 +6,7 @@ use Rattle.std.specs.BTreeMap.{insert_entry}
 use Rattle.std.specs.Ordering.{match_ordering}
 use Rattle.std.specs.Cmp.{tied_itself}
 use Rattle.std.specs.declared.cmp.Ordering.TheVariants.{Less, Equal, Greater}
-use Rattle.std.proofs.lemmas.List.{append-nil, length-set}
-use Rattle.std.proofs.lemmas.List.Elements.{All-from_recursion}
+use Rattle.std.proofs.lemmas.List.{length-set}
 use Rattle.std.proofs.lemmas.Result.{IfErr-weaker}
 use Rattle.mw_types.specs.declared.entry.Entry.{Entry}
 use Rattle.mw_types.specs.Orders.{row_cmp}
@@ -17,7 +16,7 @@ use Rattle.topology.specs.Shapes.{Shape, parts_of}
 use Rattle.row_parts.specs.Contents.{Contents, fresh}
 use Rattle.run_history.specs.Cases.{CaseShape, fresh_of}
 use Rattle.run_history.specs.Runs.{cached, row_in}
-use Rattle.run_history.specs.Fences.{IsFenced, interval_of, sequencer_of}
+use Rattle.run_history.specs.Fences.{IsFenced, interval_of}
 use Rattle.list_lemmas.proofs.Lists.{none_some, some_same}
 use Rattle.book.specs.Answers.{answer_of}
 use Rattle.book.specs.Books.{LeaseView}
@@ -26,7 +25,6 @@ use Rattle.book.specs.DeskReasons.{HasReason}
 use Rattle.book.specs.Desks.{DeskView, HasLooked, IsSound}
 use Rattle.book.specs.declared.answers.Written.{Written}
 use Rattle.book.specs.declared.desk_refusal.DeskRefusal.{DeskRefusal}
-use Rattle.book.proofs.Numbers.{own-stays}
 use Rattle.holdings.specs.Holding.{AreAllHeld, HasSeenOthers, HeldView, HoldsEntry, IsHeld, IsRefusedOf, KeepsHeld, KeepsOthers, held_at, row_held, with_row}
 use Rattle.holdings.specs.Steps.{IsReady, KeepsAll, with_cached}
 use Rattle.holdings.specs.Writing.{IsRewrittenAt}
@@ -112,23 +110,6 @@ some-so P None so = tt
 pub ok-so : {T E : Type 0} (P Q : T → Type 0) (result : Result T E) → ((x : T) → P x → Q x) → IfOk result P → IfOk result Q
 ok-so P Q (Ok x) so is = so x is
 ok-so P Q (Err e) so is = tt
-
--- a desk that was not asked has seen no more
-pub unasked : (desk : DeskView) → HasLooked desk desk
-unasked desk = record {
-  case = refl;
-  limit = refl;
-  told = refl;
-  alone = refl;
-  others = [];
-  more = sym (append-nil desk.seen);
-  foreign = λ lease may. All-from_recursion (λ (entry : Entry). sequencer_of entry ≢ Some lease.seq) [] tt;
-  none = λ alone. refl;
-  own = own-stays desk.own desk.seen;
-  leases = λ lease may. may;
-  floor = omega arith;
-  faults = omega arith;
-}
 
 module _ (case : CaseShape) (desk : DeskView) (all mid : List (Option HeldView)) (i : ℕ) (name : RowName) (left : HeldView)
     (lies : interval_of case.topology name ≡ Some i) (ready : IsReady case.topology i name all mid) (at : held_at mid i ≡ Some left)

@@ -16,7 +16,7 @@ use std::alloc::Global;
 impl Holdings {
     /// A worker takes an interval, and holds what the claim answers: the lease, and the rows that
     /// lie there. Answers the lease's sequencer.
-    #[tactic(auto, using(crate::proofs::HeldSteps::unasked))]
+    #[tactic(auto, using(book::proofs::Untried::untried_looked))]
     pub fn claim<D: Desk>(
         &mut self,
         alloc: Global,

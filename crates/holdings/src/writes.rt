@@ -21,7 +21,7 @@ use std::alloc::Global;
 impl Holdings {
     /// Writes into a row: appends one entry, and what the entry leaves of the row is held. Answers the
     /// commit number of the entry.
-    #[tactic(auto, using(crate::proofs::HeldSteps::unasked))]
+    #[tactic(auto, using(book::proofs::Untried::untried_looked))]
     pub fn put<D: Desk>(
         &mut self,
         alloc: Global,

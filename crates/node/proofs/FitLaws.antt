@@ -29,7 +29,8 @@ use Rattle.book.specs.declared.desk_refusal.DeskRefusal.TheVariants as refusals
 use Rattle.book.specs.declared.proposal.Proposal.{Proposal}
 use Rattle.book.specs.declared.proposal.Proposal.TheVariants as proposals
 use Rattle.holdings.specs.Holding.{AreAllHeld, HasSeenOthers, HeldView, HoldsClaim, KeepsHeld, KeepsOthers, held_at, held_on}
-use Rattle.holdings.proofs.HeldSteps.{AreAllHeld-beside, unasked, AreAllHeld-fewer}
+use Rattle.book.proofs.Untried.{untried_looked, untried_reason}
+use Rattle.holdings.proofs.HeldSteps.{AreAllHeld-beside, AreAllHeld-fewer}
 use Rattle.node.specs.Answers.{AnswersClaim, AnswersWrite, FailsAsked, HasGrown, HasKept, IsRefused, refusal_of}
 use Rattle.node.specs.Asking.{Request}
 use Rattle.node.specs.Fits.{Fits, IsHandled, IsPrepared, IsWork}
@@ -70,7 +71,7 @@ more-appended old new before entry moved appended = record {
 
 -- a desk that was not asked has seen no more
 pub looked_not : (desk : DeskView) → HasLooked desk desk
-looked_not desk = unasked desk
+looked_not desk = untried_looked desk
 
 -- a look before a call
 pub looked-moved : (old mid new : DeskView) (before : List Entry) → HasLooked old mid → HasMoved mid new before
@@ -407,16 +408,7 @@ Fits-beside case old new node was is others fits =
 
 -- ---- lack of memory
 
--- a lack of memory has the reason that a desk may give for it
-reason-memory : (desk : DeskView) (lease : LeaseView) → HasReason desk desk lease refusals.NoMemory
-reason-memory desk lease = record {
-  stale = λ decided. absurd decided;
-  full = λ decided. absurd decided;
-  counts = record { keeper = λ is. absurd cc; busy = λ found is. absurd cc };
-  no_row = tt;
-}
-
 -- a call that has looked, and then wanted memory, has failed as it may
 pub fails_memory : (old new : DeskView) (asked : Option Request) → HasLooked old new → FailsAsked old new asked faults.NoMemory
 fails_memory old new None looked = refl
-fails_memory old new (Some asked) looked = record { asked = new; looked = looked; reason = reason-memory new asked.lease }
+fails_memory old new (Some asked) looked = record { asked = new; looked = looked; reason = untried_reason new asked.lease }

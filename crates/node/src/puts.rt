@@ -20,7 +20,6 @@ use std::alloc::Global;
 impl<N: Seen> Node<N> {
     // Writes into a row of an interval that is held, and then has what the entry made to send; a lease
     // that was overtaken is let go.
-    #[tactic(auto, using(crate::proofs::FitLaws::looked_not, crate::proofs::FitLaws::grown_looked))]
     pub(crate) fn put_on<D: Desk<Note = N>>(
         &mut self,
         alloc: Global,

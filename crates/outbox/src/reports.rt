@@ -14,7 +14,7 @@ use std::alloc::Global;
 
 /// Reports the own work of an interval that is held: the oldest that is left in its rows. Answers the
 /// interval's mark, in whole microseconds.
-#[tactic(auto, using(holdings::proofs::HeldSteps::unasked))]
+#[tactic(auto, using(book::proofs::Untried::untried_looked))]
 pub fn report_work<D: Desk>(
     held: &mut Holdings,
     alloc: Global,

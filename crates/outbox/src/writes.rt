@@ -25,7 +25,7 @@ use std::alloc::Global;
 
 /// Writes that a record was handled on a row that is held of an interval, and then puts into the outbox
 /// word for its sender, and behind it what the handler produced.
-#[tactic(auto, using(holdings::proofs::HeldSteps::unasked))]
+#[tactic(auto, using(book::proofs::Untried::untried_looked))]
 pub fn write_work<D: Desk>(
     held: &mut Holdings,
     outbox: &mut Outbox,
@@ -79,7 +79,7 @@ pub fn write_work<D: Desk>(
 }
 
 /// Writes into a row that is held of an interval, and then puts what the entry made into the outbox.
-#[tactic(auto, using(holdings::proofs::HeldSteps::unasked))]
+#[tactic(auto, using(book::proofs::Untried::untried_looked))]
 pub fn write_made<D: Desk>(
     held: &mut Holdings,
     outbox: &mut Outbox,

@@ -23,11 +23,15 @@ returns-in-Ok-clause-put g c =
     let after : NodeView = record node { held = held; outbox = c.write_made-written.new.outbox.messages } in
     subst (λ (n : NodeView). HasPutOn case old new c.args.interval c.args.name.now c.args.writing c.args.made.items n after
     (Ok (outcomes.Committed c.in-Ok.commit))) c.self.view_is
-    (inl (c.in-Ok.commit, refl, record {
-      put = c.in-Ok.ensures.put;
-      fit = c.in-Ok.ensures.fits;
-      left = λ i. record node { held = held; outbox = sym c.in-Ok.ensures.sent i };
-    }))
+    (inl (
+      c.in-Ok.commit,
+      refl,
+      record {
+        put = c.in-Ok.ensures.put;
+        fit = c.in-Ok.ensures.fits;
+        left = λ i. record node { held = held; outbox = sym c.in-Ok.ensures.sent i };
+      },
+    ))
 
 pub returns-in-Ok-clause-grown : goal.returns-in-Ok-clause-grown
 returns-in-Ok-clause-grown g c =
