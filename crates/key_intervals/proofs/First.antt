@@ -43,9 +43,15 @@ row-of : (n : ℕ) (parts : List PartCuts) (name : RowName) (k : ℕ) → AreNum
 row-of n [] name k numbered is less = absurd (omega (arith, less))
 row-of n (p ∷ ps) name zero numbered is less =
     let of : p.part ≡ name.part = omega (arith, numbered.0, is) in
-    let own = row-from p.part [] p.cuts name of (empty_first name.key) in
-    (own.0, (own.1.0, at-left (part_bounds_of p) (bounds_of ps) own.0 (slice_get_within (part_bounds_of p) own.0 own.1.0 own.1.1)
-        ∙ own.1.1, own.1.2))
+    let own = row-from p.part [] p.cuts name of (empty_first name.key) in (
+      own.0,
+      (
+        own.1.0,
+        at-left (part_bounds_of p) (bounds_of ps) own.0 (slice_get_within (part_bounds_of p) own.0 own.1.0 own.1.1)
+            ∙ own.1.1,
+        own.1.2,
+      ),
+    )
 row-of n (p ∷ ps) name (suc k) numbered is less =
     let rest = row-of (n + 1) ps name k numbered.1 (omega (arith, is)) (omega (arith, less)) in
     (length (part_bounds_of p) + rest.0, (rest.1.0, at-right (part_bounds_of p) (bounds_of ps) rest.0 ∙ rest.1.1, rest.1.2))

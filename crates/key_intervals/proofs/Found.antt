@@ -78,7 +78,7 @@ module _ (parts : ℕ) (given : List Given) (numbers : List ℕ) (name : RowName
         begins-next (inr (inl more)) own =
             upto_upto (from_of given (get_or numbers (place + 1) 0)) (from_of given (get_or numbers k 0)) name.key
             (below_is_upto (from_of given (get_or numbers (place + 1) 0)) (from_of given (get_or numbers k 0))
-                (in-order (place + 1) k more less)) own
+            (in-order (place + 1) k more less)) own
         begins-next (inr (inr fewer)) own = absurd (omega (arith, fewer, behind))
 
     -- a live interval that has the row stands at the place

@@ -50,7 +50,7 @@ module _ (test : ℕ → Bool) (given rest : List Given) (added : List Bounds) (
     (is : IsOrder (with_fresh rest added) part order) where
   -- with the new order of that part the orders are those of the parts
   pub orders-exchanged : AreOrders (with_fresh rest added) (set orders part order)
-  orders-exchanged = record { there = there; each = λ q numbers at. by_part q numbers at (cases_eq q part); }
+  orders-exchanged = record { there = there; each = λ q numbers at. by_part q numbers at (cases_eq q part) }
     where
       there : (n : ℕ) (g : Given) → slice_get (with_fresh rest added) n ≡ Some g → g.bounds.part < length (set orders part order)
       there n g at = elim (bounds-origin test given rest added ended n g at) [
