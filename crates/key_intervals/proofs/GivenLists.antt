@@ -1,7 +1,7 @@
 -- Lists of intervals by number, some of which end, and to which others are appended.
-use Rattle.std.proofs.Common.{◌≡◌, ◌<◌, ◌≤◌, ◌+◌, ◌-◌, ◌∙◌, ◌⊎◌, ◌==◌, ◌||◌, ◌++◌, ◌∷◌, [], ℕ, zero, suc, List, Bool, true, false, Some, None, length, map, arith, refl, sym, ap, subst, inl, inr, true≢false}
-use Rattle.std.specs.Prelude.{Option, slice_get}
-use Rattle.std.proofs.lemmas.Bool.{cases_lt, cases_Bool, eqb-true, eqb-false, or_cases, or_parts, or_left, or_right}
+use Rattle.std.proofs.Common.{◌≡◌, ◌<◌, ◌+◌, ◌-◌, ◌∙◌, ◌⊎◌, ◌==◌, ◌||◌, ◌++◌, ◌∷◌, [], ℕ, zero, suc, List, Bool, true, false, Some, length, map, arith, refl, sym, ap, subst, inl, inr, true≢false}
+use Rattle.std.specs.Prelude.{slice_get}
+use Rattle.std.proofs.lemmas.Bool.{cases_lt, cases_Bool, eqb-true, eqb-false, or_cases, or_parts}
 use Rattle.std.proofs.lemmas.Option.{slice_get_within, slice_get-map}
 use Rattle.std.proofs.lemmas.List.{length-map, length-append}
 use Rattle.std.specs.Option.{option_map}

@@ -1,9 +1,8 @@
 -- A merge that is not refused leaves each row in one live interval.
-use Rattle.std.proofs.Common.{◌≡◌, ◌<◌, ◌≤◌, ◌+◌, ◌∙◌, ◌⊎◌, ◌==◌, ◌||◌, ◌&&◌, ◌++◌, ◌∷◌, [], ℕ, zero, suc, List, Bool, true, false, cond, not, Some, None, length, arith, refl, sym, ap, subst, inl, inr, true≢false}
+use Rattle.std.proofs.Common.{◌≡◌, ◌≤◌, ◌+◌, ◌∙◌, ◌⊎◌, ◌==◌, ◌||◌, ◌&&◌, ◌∷◌, [], ℕ, zero, suc, List, Bool, true, false, cond, Some, None, length, refl, sym, ap, subst, inl, inr, true≢false}
 use Rattle.std.specs.Prelude.{Option, nat_lt, slice_get}
 use Rattle.std.specs.Option.{option_map, option_map_or}
-use Rattle.std.specs.Ordering.{is_eq, is_lt}
-use Rattle.std.specs.declared.cmp.Ordering.TheVariants.{Less, Equal}
+use Rattle.std.specs.declared.cmp.Ordering.TheVariants.{Less}
 use Rattle.std.proofs.lemmas.Bool.{eq-eqb, eqb-true, ltb-false, and_parts, or_cases, or_left, or_right}
 use Rattle.list_lemmas.proofs.Lists.{none_some, some_same}
 use Rattle.list_lemmas.proofs.Tests.{equal_from_test, less_from_test}

@@ -1,5 +1,5 @@
 -- The orders of the parts after a merge.
-use Rattle.std.proofs.Common.{◌≡◌, ◌<◌, ◌+◌, ◌∙◌, ◌⊎◌, ◌==◌, ◌||◌, ◌∷◌, [], ℕ, List, Bool, true, false, Some, None, length, get_or, set, arith, refl, sym, ap, subst, inl, inr}
+use Rattle.std.proofs.Common.{◌≡◌, ◌<◌, ◌+◌, ◌∙◌, ◌==◌, ◌||◌, ◌∷◌, [], ℕ, List, Bool, true, false, Some, None, length, get_or, set, arith, refl, sym, ap, subst, inl, inr}
 use Rattle.std.specs.Prelude.{Option, Contains, flat_map, slice_get, if◌then◌else◌}
 use Rattle.std.specs.List.{AllByRecursion}
 use Rattle.std.specs.Option.{option_map}
@@ -12,7 +12,7 @@ use Rattle.mw_types.specs.Orders.{key_cmp}
 use Rattle.key_intervals.specs.declared.bounds.Bounds.{Bounds}
 use Rattle.key_intervals.specs.declared.given.Given.{Given}
 use Rattle.key_intervals.specs.Division.{bounds_at, fresh, once_ended, once_merged, AreDivided}
-use Rattle.key_intervals.specs.Index.{after_merge, from_of, AreInOrder, AreOrders, BeginsBefore, IsOfPart, IsOrder}
+use Rattle.key_intervals.specs.Index.{after_merge, from_of, AreInOrder, AreOrders, BeginsBefore, IsOfPart}
 use Rattle.key_intervals.specs.Refusing.{merge_refusal}
 use Rattle.key_intervals.proofs.GivenLists.{added-at, live-kept, live-origin, two-ended, with_fresh}
 use Rattle.key_intervals.proofs.KeyOrder.{upto_itself}

@@ -1,5 +1,5 @@
 -- The order of a part's live intervals where some end and others are appended.
-use Rattle.std.proofs.Common.{◌≡◌, ◌<◌, ◌≤◌, ◌+◌, ◌∙◌, ◌⊎◌, ◌++◌, ◌∷◌, [], ℕ, zero, suc, List, Bool, true, false, Some, length, get_or, set, arith, refl, sym, ap, subst, inl, inr}
+use Rattle.std.proofs.Common.{◌≡◌, ◌<◌, ◌∙◌, ◌++◌, ◌∷◌, [], ℕ, zero, suc, List, Bool, true, false, Some, arith, refl, sym, ap, subst, inl, inr}
 use Rattle.std.specs.Prelude.{slice_get, Contains, flat_map}
 use Rattle.std.specs.List.{AllByRecursion}
 use Rattle.std.specs.Option.{option_map, option_map_or}
@@ -11,7 +11,7 @@ use Rattle.list_lemmas.proofs.Places.{each-at}
 use Rattle.mw_types.specs.Orders.{key_cmp}
 use Rattle.key_intervals.specs.declared.bounds.Bounds.{Bounds}
 use Rattle.key_intervals.specs.declared.given.Given.{Given}
-use Rattle.key_intervals.specs.Division.{bounds_at, fresh}
+use Rattle.key_intervals.specs.Division.{fresh}
 use Rattle.key_intervals.specs.Index.{AreInOrder, BeginsBefore, IsOfPart, IsOrder, from_of}
 use Rattle.key_intervals.proofs.GivenLists.{AreEnded, with_fresh, live-kept, live-origin}
 use Rattle.key_intervals.proofs.KeyOrder.{below_upto, upto_itself}

@@ -1,18 +1,18 @@
 -- The orders of all parts where some intervals of one part end and others of it are appended.
-use Rattle.std.proofs.Common.{◌≡◌, ◌<◌, ◌∙◌, ◌⊎◌, ℕ, zero, suc, List, [], ◌∷◌, Bool, true, false, Some, length, set, arith, refl, sym, ap, subst, inl, inr, true≢false}
+use Rattle.std.proofs.Common.{◌≡◌, ◌<◌, ◌∙◌, ◌⊎◌, ℕ, zero, suc, List, [], ◌∷◌, Bool, true, false, Some, length, set, arith, refl, sym, ap, subst, inl, inr}
 use Rattle.std.specs.Prelude.{slice_get}
 use Rattle.std.specs.Ordering.{is_le}
 use Rattle.std.specs.declared.cmp.Ordering.TheVariants.{Less}
 use Rattle.std.proofs.lemmas.Bool.{cases_eq, false_from_ne_true}
 use Rattle.std.proofs.lemmas.List.{length-set}
-use Rattle.list_lemmas.proofs.Lists.{none_some, some_same}
+use Rattle.list_lemmas.proofs.Lists.{some_same}
 use Rattle.mw_types.specs.Orders.{key_cmp}
 use Rattle.mw_types.specs.declared.identity.RowName.{RowName}
 use Rattle.key_intervals.specs.declared.bounds.Bounds.{Bounds}
 use Rattle.key_intervals.specs.declared.given.Given.{Given}
 use Rattle.key_intervals.specs.Intervals.{covers, ends_after}
 use Rattle.key_intervals.specs.Division.{fresh, AreDivided}
-use Rattle.key_intervals.specs.Index.{AreOrders, IsOfPart, IsOrder}
+use Rattle.key_intervals.specs.Index.{AreOrders, IsOrder}
 use Rattle.key_intervals.proofs.GivenLists.{AreEnded, with_fresh, bounds-origin}
 use Rattle.key_intervals.proofs.KeyOrder.{below_is_upto, never_back, upto_itself}
 use Rattle.key_intervals.proofs.Lookup.{has_row}

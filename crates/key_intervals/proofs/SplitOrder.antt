@@ -14,7 +14,7 @@ use Rattle.key_intervals.specs.declared.bounds.Bounds.{Bounds}
 use Rattle.key_intervals.specs.declared.given.Given.{Given}
 use Rattle.key_intervals.specs.Intervals.{ends_after}
 use Rattle.key_intervals.specs.Division.{bounds_at, fresh, lower_of, once_ended, once_split, upper_of, AreDivided}
-use Rattle.key_intervals.specs.Index.{after_split, from_of, AreInOrder, AreOrders, BeginsBefore, IsOfPart, IsOrder}
+use Rattle.key_intervals.specs.Index.{after_split, from_of, AreInOrder, AreOrders, BeginsBefore, IsOfPart}
 use Rattle.key_intervals.specs.Refusing.{split_refusal}
 use Rattle.key_intervals.proofs.Beginnings.{above}
 use Rattle.key_intervals.proofs.GivenLists.{added-at, live-kept, live-origin, one-ended, with_fresh}
