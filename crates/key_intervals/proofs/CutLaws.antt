@@ -1,5 +1,5 @@
 -- A cut within an interval divides its rows between two halves.
-use Rattle.std.proofs.Common.{◌≡◌, List, ℕ, Bool, true, false, refl, ap, inl, inr, ◌⊎◌}
+use Rattle.std.proofs.Common.{◌≡◌, List, ℕ, true, inl, inr, ◌⊎◌}
 use Rattle.std.proofs.lemmas.Bool.{cases_Bool}
 use Rattle.std.specs.Ordering.{is_lt}
 use Rattle.std.specs.declared.cmp.Ordering.TheVariants.{Less}

@@ -1,5 +1,5 @@
 -- Where some intervals end, and others have their rows, each row is still in one live interval.
-use Rattle.std.proofs.Common.{◌≡◌, ◌<◌, ◌≤◌, ◌+◌, ◌∙◌, ◌⊎◌, ◌∷◌, [], ℕ, List, Bool, true, false, Some, length, arith, refl, sym, ap, inl, inr, true≢false}
+use Rattle.std.proofs.Common.{◌≡◌, ◌<◌, ◌≤◌, ◌+◌, ◌∙◌, ◌⊎◌, ℕ, List, Bool, true, false, Some, length, arith, sym, ap, inl, inr, true≢false}
 use Rattle.std.specs.Prelude.{slice_get}
 use Rattle.std.proofs.lemmas.Bool.{cases_Bool}
 use Rattle.mw_types.specs.declared.identity.RowName.{RowName}

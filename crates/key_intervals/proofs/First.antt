@@ -1,17 +1,16 @@
 -- The intervals of parts that are not split yet have each row once.
-use Rattle.std.proofs.Common.{◌≡◌, ◌<◌, ◌≤◌, ◌+◌, ◌∙◌, ◌⊎◌, ◌++◌, ◌∷◌, [], ℕ, zero, suc, List, Bool, true, false, Option, Some, None, length, map, get_or, arith, refl, sym, ap, subst, inl, inr}
+use Rattle.std.proofs.Common.{◌≡◌, ◌<◌, ◌≤◌, ◌+◌, ◌∙◌, ◌∷◌, [], ℕ, zero, suc, List, true, Some, None, length, map, arith, refl, sym, ap, inl, inr}
 use Rattle.std.specs.Prelude.{All, slice_get}
 use Rattle.std.specs.List.{AllByRecursion}
 use Rattle.std.specs.List.Sorted.{IsStrictlySortedBy}
 use Rattle.std.specs.Option.{option_map}
 use Rattle.std.specs.Ordering.{is_le, is_lt}
-use Rattle.std.specs.declared.cmp.Ordering.TheVariants.{Less}
 use Rattle.std.proofs.lemmas.Bool.{cases_Bool}
 use Rattle.std.proofs.lemmas.List.{length-map}
 use Rattle.std.proofs.lemmas.List.Elements.{All-head, All-tail}
 use Rattle.std.proofs.lemmas.Map.Keys.{sorted_head, sorted_tail}
 use Rattle.std.proofs.lemmas.Option.{slice_get_within, slice_get-map}
-use Rattle.list_lemmas.proofs.Lists.{each-append, none_some, some_same}
+use Rattle.list_lemmas.proofs.Lists.{each-append, some_same}
 use Rattle.list_lemmas.proofs.Places.{each-at, slice_get-some}
 use Rattle.mw_types.specs.Orders.{key_cmp}
 use Rattle.mw_types.specs.declared.identity.RowName.{RowName}
@@ -19,7 +18,7 @@ use Rattle.mw_types.specs.declared.key.PartCuts.{PartCuts}
 use Rattle.key_intervals.specs.declared.bounds.Bounds.{Bounds}
 use Rattle.key_intervals.specs.declared.given.Given.{Given}
 use Rattle.key_intervals.specs.declared.TheConstants.{INTERVALS_MAX}
-use Rattle.key_intervals.specs.Intervals.{bounds_from, bounds_of, covers, ends_after, part_bounds_of, AreIntervals, AreNumbered, DivideKeys, HasRow}
+use Rattle.key_intervals.specs.Intervals.{bounds_from, bounds_of, covers, ends_after, part_bounds_of, AreNumbered, DivideKeys, HasRow}
 use Rattle.key_intervals.specs.Division.{fresh, AreDivided, HasLive}
 use Rattle.key_intervals.proofs.Beginnings.{empty_first}
 use Rattle.key_intervals.proofs.GivenLists.{at-left, at-right}
@@ -43,9 +42,15 @@ row-of : (n : ℕ) (parts : List PartCuts) (name : RowName) (k : ℕ) → AreNum
 row-of n [] name k numbered is less = absurd (omega (arith, less))
 row-of n (p ∷ ps) name zero numbered is less =
     let of : p.part ≡ name.part = omega (arith, numbered.0, is) in
-    let own = row-from p.part [] p.cuts name of (empty_first name.key) in
-    (own.0, (own.1.0, at-left (part_bounds_of p) (bounds_of ps) own.0 (slice_get_within (part_bounds_of p) own.0 own.1.0 own.1.1)
-        ∙ own.1.1, own.1.2))
+    let own = row-from p.part [] p.cuts name of (empty_first name.key) in (
+      own.0,
+      (
+        own.1.0,
+        at-left (part_bounds_of p) (bounds_of ps) own.0 (slice_get_within (part_bounds_of p) own.0 own.1.0 own.1.1)
+            ∙ own.1.1,
+        own.1.2,
+      ),
+    )
 row-of n (p ∷ ps) name (suc k) numbered is less =
     let rest = row-of (n + 1) ps name k numbered.1 (omega (arith, is)) (omega (arith, less)) in
     (length (part_bounds_of p) + rest.0, (rest.1.0, at-right (part_bounds_of p) (bounds_of ps) rest.0 ∙ rest.1.1, rest.1.2))

@@ -1,5 +1,5 @@
 -- The orders of parts that are not split yet are those of their intervals' numbers.
-use Rattle.std.proofs.Common.{◌≡◌, ◌<◌, ◌≤◌, ◌+◌, ◌-◌, ◌∙◌, ◌⊎◌, ◌++◌, ◌∷◌, [], ℕ, zero, suc, List, Some, length, map, get_or, append_assoc, arith, refl, sym, ap, subst, inl, inr}
+use Rattle.std.proofs.Common.{◌≡◌, ◌<◌, ◌≤◌, ◌+◌, ◌-◌, ◌∙◌, ◌⊎◌, ◌++◌, ◌∷◌, [], ℕ, zero, suc, List, Some, length, map, append_assoc, arith, refl, sym, ap, subst, inl, inr}
 use Rattle.std.specs.Prelude.{All, Contains, slice_get}
 use Rattle.std.specs.List.{AllByRecursion, range_with_len}
 use Rattle.std.specs.List.Sorted.{IsStrictlySortedBy}
@@ -30,21 +30,23 @@ use Rattle.key_intervals.proofs.OrderLaws.{from-is, ordered-get}
 range-all : (P : ℕ → Type 0) (a n : ℕ) → ((k : ℕ) → k < n → P (a + k)) → AllByRecursion P (range_with_len a n)
 range-all P a zero each = tt
 range-all P a (suc n) each =
-    let none : a + 0 ≡ a = omega arith in
-    (subst P none (each 0 (omega arith)),
-    range-all P (a + 1) n (λ k less. let one : a + (k + 1) ≡ a + 1 + k = omega arith in subst P one (each (k + 1) (omega (arith, less)))))
+    let none : a + 0 ≡ a = omega arith in (
+      subst P none (each 0 (omega arith)),
+      range-all P (a + 1) n (λ k less. let one : a + (k + 1) ≡ a + 1 + k = omega arith in subst P one (each (k + 1) (omega (arith, less)))),
+    )
 
 -- they are in an order in which each stands so to those after it
 range-order : (R : ℕ → ℕ → Type 0) (a n : ℕ) → ((k l : ℕ) → k < l → l < n → R (a + k) (a + l)) → AreInOrder R (range_with_len a n)
 range-order R a zero each = tt
 range-order R a (suc n) each =
-    let none : a + 0 ≡ a = omega arith in
-    (range-all (R a) (a + 1) n (λ k less. let one : a + (k + 1) ≡ a + 1 + k = omega arith in
-        subst (R a) one (subst (λ b. R b (a + (k + 1))) none (each 0 (k + 1) (omega arith) (omega (arith, less))))),
-    range-order R (a + 1) n (λ k l before less.
-        let one : a + (k + 1) ≡ a + 1 + k = omega arith in
-        let two : a + (l + 1) ≡ a + 1 + l = omega arith in
-        subst (R (a + 1 + k)) two (subst (λ b. R b (a + (l + 1))) one (each (k + 1) (l + 1) (omega (arith, before)) (omega (arith, less))))))
+    let none : a + 0 ≡ a = omega arith in (
+      range-all (R a) (a + 1) n (λ k less. let one : a + (k + 1) ≡ a + 1 + k = omega arith in
+          subst (R a) one (subst (λ b. R b (a + (k + 1))) none (each 0 (k + 1) (omega arith) (omega (arith, less))))),
+      range-order R (a + 1) n (λ k l before less.
+          let one : a + (k + 1) ≡ a + 1 + k = omega arith in
+          let two : a + (l + 1) ≡ a + 1 + l = omega arith in
+          subst (R (a + 1 + k)) two (subst (λ b. R b (a + (l + 1))) one (each (k + 1) (l + 1) (omega (arith, before)) (omega (arith, less))))),
+    )
 
 -- each number within is one of them
 range-contains : (a n k : ℕ) → k < n → Contains (range_with_len a n) (a + k)
@@ -61,17 +63,20 @@ range-contains a (suc n) (suc k) less =
 above-from : (key : List ℕ) (part : ℕ) (from : List ℕ) (cuts : List (List ℕ)) → key_cmp key from ≡ Less
     → IsStrictlySortedBy key_cmp (from ∷ cuts) → AllByRecursion (λ (b : Bounds). key_cmp key b.from ≡ Less) (bounds_from part from cuts)
 above-from key part from [] less sorted = (less, tt)
-above-from key part from (cut ∷ cuts) less sorted =
-    (less, above-from key part cut cuts (key_cmp-total.trans key from cut less (sorted_head key_cmp from (cut ∷ cuts) sorted).0)
-        (sorted_tail key_cmp from (cut ∷ cuts) sorted))
+above-from key part from (cut ∷ cuts) less sorted = (
+  less,
+  above-from key part cut cuts (key_cmp-total.trans key from cut less (sorted_head key_cmp from (cut ∷ cuts) sorted).0)
+      (sorted_tail key_cmp from (cut ∷ cuts) sorted),
+)
 
 -- they begin one after another
 from-order : (part : ℕ) (from : List ℕ) (cuts : List (List ℕ)) → IsStrictlySortedBy key_cmp (from ∷ cuts)
     → AreInOrder (λ (a b : Bounds). key_cmp a.from b.from ≡ Less) (bounds_from part from cuts)
 from-order part from [] sorted = (tt, tt)
-from-order part from (cut ∷ cuts) sorted =
-    (above-from from part cut cuts (sorted_head key_cmp from (cut ∷ cuts) sorted).0 (sorted_tail key_cmp from (cut ∷ cuts) sorted),
-    from-order part cut cuts (sorted_tail key_cmp from (cut ∷ cuts) sorted))
+from-order part from (cut ∷ cuts) sorted = (
+  above-from from part cut cuts (sorted_head key_cmp from (cut ∷ cuts) sorted).0 (sorted_tail key_cmp from (cut ∷ cuts) sorted),
+  from-order part cut cuts (sorted_tail key_cmp from (cut ∷ cuts) sorted),
+)
 
 -- they are of the part
 from-part : (part : ℕ) (from : List ℕ) (cuts : List (List ℕ)) → AllByRecursion (λ (b : Bounds). b.part ≡ part) (bounds_from part from cuts)
@@ -138,9 +143,9 @@ parts-from m [] numbered = tt
 parts-from m (p ∷ ps) numbered =
     each-append (λ (b : Bounds). m ≤ b.part) (part_bounds_of p) (bounds_of ps)
     (each-weaker (λ (b : Bounds). b.part ≡ p.part) (λ (b : Bounds). m ≤ b.part) (λ b is. omega (arith, is, numbered.0)) (part_bounds_of p)
-        (from-part p.part [] p.cuts))
+    (from-part p.part [] p.cuts))
     (each-weaker (λ (b : Bounds). m + 1 ≤ b.part) (λ (b : Bounds). m ≤ b.part) (λ b le. omega (arith, le)) (bounds_of ps)
-        (parts-from (m + 1) ps numbered.1))
+    (parts-from (m + 1) ps numbered.1))
 
 -- and none is of a part past the last
 parts-below : (m : ℕ) (parts : List PartCuts) → AreNumbered m parts
@@ -149,9 +154,9 @@ parts-below m [] numbered = tt
 parts-below m (p ∷ ps) numbered =
     each-append (λ (b : Bounds). b.part < m + length (p ∷ ps)) (part_bounds_of p) (bounds_of ps)
     (each-weaker (λ (b : Bounds). b.part ≡ p.part) (λ (b : Bounds). b.part < m + length (p ∷ ps))
-        (λ b is. omega (arith, is, numbered.0)) (part_bounds_of p) (from-part p.part [] p.cuts))
+    (λ b is. omega (arith, is, numbered.0)) (part_bounds_of p) (from-part p.part [] p.cuts))
     (each-weaker (λ (b : Bounds). b.part < m + 1 + length ps) (λ (b : Bounds). b.part < m + length (p ∷ ps))
-        (λ b less. omega (arith, less)) (bounds_of ps) (parts-below (m + 1) ps numbered.1))
+    (λ b less. omega (arith, less)) (bounds_of ps) (parts-below (m + 1) ps numbered.1))
 
 -- behind intervals of earlier parts each part has its order
 orders-behind : (before : List Bounds) (m : ℕ) (parts : List PartCuts) → AreNumbered m parts
@@ -163,14 +168,14 @@ orders-behind before m (p ∷ ps) numbered cuts below zero numbers at =
     let here : p.part ≡ m + 0 = omega (arith, numbered.0) in
     subst (λ part. IsOrder (map fresh (before ++ bounds_of (p ∷ ps))) part numbers) here
     (subst (IsOrder (map fresh (before ++ bounds_of (p ∷ ps))) p.part)
-        (some_same (range_with_len (length before) (length (part_bounds_of p))) numbers at)
-        (own-order before (part_bounds_of p) (bounds_of ps) p.part
-            (each-weaker (λ (b : Bounds). b.part < m) (λ (b : Bounds). b.part ≡ p.part → ⊥) (λ b less is. omega (arith, less, is, numbered.0))
-                before below)
-            (from-part p.part [] p.cuts)
-            (each-weaker (λ (b : Bounds). m + 1 ≤ b.part) (λ (b : Bounds). b.part ≡ p.part → ⊥) (λ b le is. omega (arith, le, is, numbered.0))
-                (bounds_of ps) (parts-from (m + 1) ps numbered.1))
-            (from-order p.part [] p.cuts (All-head (λ (r : PartCuts). DivideKeys r.cuts) p ps cuts))))
+    (some_same (range_with_len (length before) (length (part_bounds_of p))) numbers at)
+    (own-order before (part_bounds_of p) (bounds_of ps) p.part
+    (each-weaker (λ (b : Bounds). b.part < m) (λ (b : Bounds). b.part ≡ p.part → ⊥) (λ b less is. omega (arith, less, is, numbered.0))
+    before below)
+    (from-part p.part [] p.cuts)
+    (each-weaker (λ (b : Bounds). m + 1 ≤ b.part) (λ (b : Bounds). b.part ≡ p.part → ⊥) (λ b le is. omega (arith, le, is, numbered.0))
+    (bounds_of ps) (parts-from (m + 1) ps numbered.1))
+    (from-order p.part [] p.cuts (All-head (λ (r : PartCuts). DivideKeys r.cuts) p ps cuts))))
 orders-behind before m (p ∷ ps) numbered cuts below (suc q) numbers at =
     let whole : (before ++ part_bounds_of p) ++ bounds_of ps ≡ before ++ bounds_of (p ∷ ps) =
     append_assoc before (part_bounds_of p) (bounds_of ps) in
@@ -179,12 +184,12 @@ orders-behind before m (p ∷ ps) numbered cuts below (suc q) numbers at =
     let next : m + 1 + q ≡ m + suc q = omega arith in
     subst (λ part. IsOrder (map fresh (before ++ bounds_of (p ∷ ps))) part numbers) next
     (subst (λ all. IsOrder (map fresh all) (m + 1 + q) numbers) whole
-        (orders-behind (before ++ part_bounds_of p) (m + 1) ps numbered.1 (All-tail (λ (r : PartCuts). DivideKeys r.cuts) p ps cuts)
-            (each-append (λ (b : Bounds). b.part < m + 1) before (part_bounds_of p)
-                (each-weaker (λ (b : Bounds). b.part < m) (λ (b : Bounds). b.part < m + 1) (λ b less. omega (arith, less)) before below)
-                (each-weaker (λ (b : Bounds). b.part ≡ p.part) (λ (b : Bounds). b.part < m + 1) (λ b is. omega (arith, is, numbered.0))
-                    (part_bounds_of p) (from-part p.part [] p.cuts)))
-            q numbers (ap (λ n. slice_get (orders_from n ps) q) (sym many) ∙ at)))
+    (orders-behind (before ++ part_bounds_of p) (m + 1) ps numbered.1 (All-tail (λ (r : PartCuts). DivideKeys r.cuts) p ps cuts)
+    (each-append (λ (b : Bounds). b.part < m + 1) before (part_bounds_of p)
+    (each-weaker (λ (b : Bounds). b.part < m) (λ (b : Bounds). b.part < m + 1) (λ b less. omega (arith, less)) before below)
+    (each-weaker (λ (b : Bounds). b.part ≡ p.part) (λ (b : Bounds). b.part < m + 1) (λ b is. omega (arith, is, numbered.0))
+    (part_bounds_of p) (from-part p.part [] p.cuts)))
+    q numbers (ap (λ n. slice_get (orders_from n ps) q) (sym many) ∙ at)))
 
 -- how many orders there are
 pub length-orders_from : (n : ℕ) (parts : List PartCuts) → length (orders_from n parts) ≡ length parts

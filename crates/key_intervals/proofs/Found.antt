@@ -1,7 +1,6 @@
 -- A search in the order of a part ends at the live interval that has the row.
-use Rattle.std.proofs.Common.{◌≡◌, ◌<◌, ◌≤◌, ◌+◌, ◌∙◌, ◌⊎◌, ◌∷◌, [], ℕ, List, true, false, Some, length, get_or, arith, refl, sym, ap, subst, inl, inr, true≢false}
+use Rattle.std.proofs.Common.{◌≡◌, ◌<◌, ◌+◌, ◌∙◌, ◌⊎◌, ℕ, List, true, Some, length, get_or, arith, refl, sym, ap, subst, inl, inr, true≢false}
 use Rattle.std.specs.Prelude.{All, slice_get}
-use Rattle.std.specs.List.{AllByRecursion}
 use Rattle.std.specs.Ordering.{is_le}
 use Rattle.std.specs.declared.cmp.Ordering.TheVariants.{Less}
 use Rattle.std.proofs.lemmas.Bool.{cases_order}
@@ -14,7 +13,7 @@ use Rattle.mw_types.specs.Orders.{key_cmp}
 use Rattle.mw_types.specs.declared.identity.RowName.{RowName}
 use Rattle.key_intervals.specs.declared.bounds.Bounds.{Bounds}
 use Rattle.key_intervals.specs.declared.given.Given.{Given}
-use Rattle.key_intervals.specs.Intervals.{covers, ends_after}
+use Rattle.key_intervals.specs.Intervals.{covers}
 use Rattle.key_intervals.specs.Division.{fresh, AreDivided, HasLive}
 use Rattle.key_intervals.specs.Index.{begins_by_key, from_of, AreOrders, BeginsBefore, IsLastBegun, IsOfPart, IsOrder}
 use Rattle.key_intervals.proofs.KeyOrder.{below_is_upto, ends_before, upto_upto}
@@ -78,7 +77,7 @@ module _ (parts : ℕ) (given : List Given) (numbers : List ℕ) (name : RowName
         begins-next (inr (inl more)) own =
             upto_upto (from_of given (get_or numbers (place + 1) 0)) (from_of given (get_or numbers k 0)) name.key
             (below_is_upto (from_of given (get_or numbers (place + 1) 0)) (from_of given (get_or numbers k 0))
-                (in-order (place + 1) k more less)) own
+            (in-order (place + 1) k more less)) own
         begins-next (inr (inr fewer)) own = absurd (omega (arith, fewer, behind))
 
     -- a live interval that has the row stands at the place

@@ -1,7 +1,7 @@
 -- Lists of intervals by number, some of which end, and to which others are appended.
-use Rattle.std.proofs.Common.{◌≡◌, ◌<◌, ◌≤◌, ◌+◌, ◌-◌, ◌∙◌, ◌⊎◌, ◌==◌, ◌||◌, ◌++◌, ◌∷◌, [], ℕ, zero, suc, List, Bool, true, false, Some, None, length, map, arith, refl, sym, ap, subst, inl, inr, true≢false}
-use Rattle.std.specs.Prelude.{Option, slice_get}
-use Rattle.std.proofs.lemmas.Bool.{cases_lt, cases_Bool, eqb-true, eqb-false, or_cases, or_parts, or_left, or_right}
+use Rattle.std.proofs.Common.{◌≡◌, ◌<◌, ◌+◌, ◌-◌, ◌∙◌, ◌⊎◌, ◌==◌, ◌||◌, ◌++◌, ◌∷◌, [], ℕ, zero, suc, List, Bool, true, false, Some, length, map, arith, refl, sym, ap, subst, inl, inr, true≢false}
+use Rattle.std.specs.Prelude.{slice_get}
+use Rattle.std.proofs.lemmas.Bool.{cases_lt, cases_Bool, eqb-true, eqb-false, or_cases, or_parts}
 use Rattle.std.proofs.lemmas.Option.{slice_get_within, slice_get-map}
 use Rattle.std.proofs.lemmas.List.{length-map, length-append}
 use Rattle.std.specs.Option.{option_map}
@@ -120,8 +120,13 @@ module _ (test : ℕ → Bool) (given rest : List Given) (added : List Bounds) (
         sym (at-right rest (map fresh added) k) ∙ ap (slice_get (with_fresh rest added)) is ∙ at in
         let within : k < length added = omega (arith, slice_get_within (map fresh added) k g there, length-map added fresh) in
         let b = slice_get-some added k within in
-        inr (k, b.0, omega (arith, is, ended.many), b.1,
-        some_same (fresh b.0) g (sym (slice_get-map fresh added k ∙ ap (option_map fresh) b.1) ∙ there))
+        inr (
+          k,
+          b.0,
+          omega (arith, is, ended.many),
+          b.1,
+          some_same (fresh b.0) g (sym (slice_get-map fresh added k ∙ ap (option_map fresh) b.1) ∙ there),
+        )
   ]
 
   -- a live interval was live before, and has not ended, or is one of those that are appended
@@ -152,8 +157,12 @@ module _ (test : ℕ → Bool) (given rest : List Given) (added : List Bounds) (
       by_place (inl here) (inl gone) =
           let within : i < length given = omega (arith, slice_get_within rest i g here, ended.many) in
           let was = slice_get-some given i within in
-          inl (was.0, was.1, ap (λ (h : Given). h.bounds) (some_same (record was.0 { live = false }) g
-          (sym (ended.gone i was.0 gone was.1) ∙ here)))
+          inl (
+            was.0,
+            was.1,
+            ap (λ (h : Given). h.bounds) (some_same (record was.0 { live = false }) g
+                (sym (ended.gone i was.0 gone was.1) ∙ here)),
+          )
       by_place (inr p) either = inr (p.0, p.3 ∙ ap Some (ap (λ (h : Given). h.bounds) p.4))
 
   -- how many numbers there are

@@ -12,6 +12,7 @@ pub mod Orders
 pub mod SplitOrder
 pub mod MergeOrder
 pub mod Found
+pub mod Live
 pub mod Made
 pub mod First
 pub mod FirstOrders

@@ -1,20 +1,18 @@
 -- Of intervals that meet one at most has a row.
-use Rattle.std.proofs.Common.{◌≡◌, ◌<◌, ◌≤◌, ◌+◌, ◌-◌, ◌∙◌, ◌⊎◌, inl, inr, ℕ, List, [], ◌∷◌, Bool, true, false, Option, Some, None, length, get_or, arith, refl, sym, ap, subst, zero, suc, true≢false, ◌==◌, ◌&&◌}
-use Rattle.std.specs.Prelude.{MatchOption, IfSome, slice_get, Any}
-use Rattle.std.proofs.lemmas.Option.{slice_get-get_or, slice_get_within, get_or_from_slice_get}
+use Rattle.std.proofs.Common.{◌≡◌, ◌<◌, ◌≤◌, ◌+◌, ◌∙◌, ◌⊎◌, inl, inr, ℕ, List, [], ◌∷◌, Bool, true, false, Option, Some, None, length, get_or, arith, refl, sym, ap, subst, zero, suc, true≢false, ◌==◌, ◌&&◌}
+use Rattle.std.specs.Prelude.{MatchOption, IfSome, slice_get}
+use Rattle.std.proofs.lemmas.Option.{slice_get_within, get_or_from_slice_get}
 use Rattle.std.proofs.lemmas.Bool.Decides.{nat_tests}
 use Rattle.std.proofs.lemmas.Bool.{cases_lt, both_ways}
-use Rattle.std.proofs.Math.Nat.{eq-or-lt_of_le}
 use Rattle.std.specs.declared.cmp.Ordering.{Ordering}
 use Rattle.std.specs.declared.cmp.Ordering.TheVariants.{Less}
-use Rattle.std.specs.Ordering.{is_le, is_lt, nat_cmp, ordering_then}
-use Rattle.std.specs.List.Sorted.{IsPartitionPoint}
-use Rattle.mw_types.specs.Orders.{key_cmp, row_cmp}
+use Rattle.std.specs.Ordering.{is_le, nat_cmp, ordering_then}
+use Rattle.mw_types.specs.Orders.{key_cmp}
 use Rattle.mw_types.specs.declared.identity.RowName.{RowName}
 use Rattle.mw_types.proofs.OrderLaws.{key_cmp-total}
 use Rattle.key_intervals.specs.declared.bounds.Bounds.{Bounds}
-use Rattle.key_intervals.specs.Intervals.{start_of, Meets, AreIntervals, HasRow, covers, ends_after}
-use Rattle.key_intervals.proofs.Beginnings.{begins_by, begin_in_two, part_below, parts_rise, key_decides, after_part, empty_first, above, turned_below}
+use Rattle.key_intervals.specs.Intervals.{Meets, AreIntervals, HasRow, covers, ends_after}
+use Rattle.key_intervals.proofs.Beginnings.{begins_by, begin_in_two, key_decides, after_part, turned_below}
 
 -- the first interval begins with the empty key
 first_from : (all : List Bounds) (d : Bounds) → IfSome (slice_get all 0) (λ (b : Bounds). b.from ≡ []) → 0 < length all

@@ -1,9 +1,8 @@
 -- A merge that is not refused leaves each row in one live interval.
-use Rattle.std.proofs.Common.{◌≡◌, ◌<◌, ◌≤◌, ◌+◌, ◌∙◌, ◌⊎◌, ◌==◌, ◌||◌, ◌&&◌, ◌++◌, ◌∷◌, [], ℕ, zero, suc, List, Bool, true, false, cond, not, Some, None, length, arith, refl, sym, ap, subst, inl, inr, true≢false}
+use Rattle.std.proofs.Common.{◌≡◌, ◌≤◌, ◌+◌, ◌∙◌, ◌⊎◌, ◌==◌, ◌||◌, ◌&&◌, ◌∷◌, [], ℕ, zero, suc, List, Bool, true, false, cond, Some, None, length, refl, sym, ap, subst, inl, inr, true≢false}
 use Rattle.std.specs.Prelude.{Option, nat_lt, slice_get}
 use Rattle.std.specs.Option.{option_map, option_map_or}
-use Rattle.std.specs.Ordering.{is_eq, is_lt}
-use Rattle.std.specs.declared.cmp.Ordering.TheVariants.{Less, Equal}
+use Rattle.std.specs.declared.cmp.Ordering.TheVariants.{Less}
 use Rattle.std.proofs.lemmas.Bool.{eq-eqb, eqb-true, ltb-false, and_parts, or_cases, or_left, or_right}
 use Rattle.list_lemmas.proofs.Lists.{none_some, some_same}
 use Rattle.list_lemmas.proofs.Tests.{equal_from_test, less_from_test}
@@ -47,7 +46,7 @@ may-merge given low high none =
     let meet : meets one.0 two.0 ≡ true =
     ap (λ (o : Option Given). option_map_or (meets one.0) (option_map (λ (g : Given). g.bounds) o) false) (sym two.1)
     ∙ ap (λ (o : Option Given). option_map_or (λ (a : Bounds). option_map_or (meets a) (bounds_at given high) false)
-        (option_map (λ (g : Given). g.bounds) o) false) (sym one.1) ∙ next.0 in
+    (option_map (λ (g : Given). g.bounds) o) false) (sym one.1) ∙ next.0 in
     let parts = and_parts (one.0.part == two.0.part) (ends_at one.0.to two.0.from) meet in record {
       lower = one.0;
       upper = two.0;
@@ -106,10 +105,20 @@ module _ (given : List Given) (low high : ℕ) (may : MayMerge given low high) (
   of-either : (name : RowName) → covers together name ≡ true
       → (i : ℕ) × (c : Bounds) × (slice_get given i ≡ Some (fresh c)) × (covers c name ≡ true) × (((i == low) || (i == high)) ≡ true)
   of-either name has = elim (in_a_half together may.upper.from above below name has) [
-    | inl lower ↦ (low, may.lower, may.low_there, ap (λ (b : Bounds). covers b name) (sym lower-is) ∙ lower,
-        or_left (low == low) (low == high) (eq-eqb low low refl))
-    | inr upper ↦ (high, may.upper, may.high_there, ap (λ (b : Bounds). covers b name) (sym upper-is) ∙ upper,
-        or_right (high == low) (high == high) (eq-eqb high high refl))
+    | inl lower ↦ (
+      low,
+      may.lower,
+      may.low_there,
+      ap (λ (b : Bounds). covers b name) (sym lower-is) ∙ lower,
+      or_left (low == low) (low == high) (eq-eqb low low refl),
+    )
+    | inr upper ↦ (
+      high,
+      may.upper,
+      may.high_there,
+      ap (λ (b : Bounds). covers b name) (sym upper-is) ∙ upper,
+      or_right (high == low) (high == high) (eq-eqb high high refl),
+    )
   ]
 
   -- both together have the rows of the two

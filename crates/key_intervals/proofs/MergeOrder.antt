@@ -1,5 +1,5 @@
 -- The orders of the parts after a merge.
-use Rattle.std.proofs.Common.{◌≡◌, ◌<◌, ◌+◌, ◌∙◌, ◌⊎◌, ◌==◌, ◌||◌, ◌∷◌, [], ℕ, List, Bool, true, false, Some, None, length, get_or, set, arith, refl, sym, ap, subst, inl, inr}
+use Rattle.std.proofs.Common.{◌≡◌, ◌<◌, ◌+◌, ◌∙◌, ◌==◌, ◌||◌, ◌∷◌, [], ℕ, List, Bool, true, false, Some, None, length, get_or, set, arith, refl, sym, ap, subst, inl, inr}
 use Rattle.std.specs.Prelude.{Option, Contains, flat_map, slice_get, if◌then◌else◌}
 use Rattle.std.specs.List.{AllByRecursion}
 use Rattle.std.specs.Option.{option_map}
@@ -12,7 +12,7 @@ use Rattle.mw_types.specs.Orders.{key_cmp}
 use Rattle.key_intervals.specs.declared.bounds.Bounds.{Bounds}
 use Rattle.key_intervals.specs.declared.given.Given.{Given}
 use Rattle.key_intervals.specs.Division.{bounds_at, fresh, once_ended, once_merged, AreDivided}
-use Rattle.key_intervals.specs.Index.{after_merge, from_of, AreInOrder, AreOrders, BeginsBefore, IsOfPart, IsOrder}
+use Rattle.key_intervals.specs.Index.{after_merge, from_of, AreInOrder, AreOrders, BeginsBefore, IsOfPart}
 use Rattle.key_intervals.specs.Refusing.{merge_refusal}
 use Rattle.key_intervals.proofs.GivenLists.{added-at, live-kept, live-origin, two-ended, with_fresh}
 use Rattle.key_intervals.proofs.KeyOrder.{upto_itself}
@@ -28,8 +28,10 @@ module _ (given : List Given) (low high : ℕ) (may : MayMerge given low high) (
   -- what they have together, and what is given after the merge
   abbrev both : Bounds
   both = together given low high may parts are
+
   abbrev rest : List Given
   rest = once_ended high (once_ended low given)
+
   abbrev after : List Given
   after = with_fresh rest (both ∷ [])
 
@@ -65,9 +67,11 @@ module _ (given : List Given) (low high : ℕ) (may : MayMerge given low high) (
   each-heir n of false true one two =
       subst (AllByRecursion (IsHeir given after may.lower.part n)) (sym (heirs-are n false true one two)) tt
   each-heir n of false false one two =
-      subst (AllByRecursion (IsHeir given after may.lower.part n)) (sym (heirs-are n false false one two))
-      (kept-heir given after may.lower.part n of.0 of.1
-      (live-kept either given rest (both ∷ []) (two-ended low high given) n of.0 of.1 (or_from (n == low) (n == high) one two)) of.2, tt)
+      subst (AllByRecursion (IsHeir given after may.lower.part n)) (sym (heirs-are n false false one two)) (
+        kept-heir given after may.lower.part n of.0 of.1
+            (live-kept either given rest (both ∷ []) (two-ended low high given) n of.0 of.1 (or_from (n == low) (n == high) one two)) of.2,
+        tt,
+      )
 
   ordered-heirs : (n : ℕ) (s t : Bool) → (n == low) ≡ s → (n == high) ≡ t → AreInOrder (BeginsBefore after) (heirs n)
   ordered-heirs n true t one two = subst (AreInOrder (BeginsBefore after)) (sym (heirs-are n true t one two)) (tt, tt)
@@ -80,9 +84,11 @@ module _ (given : List Given) (low high : ℕ) (may : MayMerge given low high) (
         (i, (of.0, old.0, of.2), subst (λ l. Contains l i) (sym (heirs-are i false false not.0 not.1)) (0, omega arith, refl))
     | inr new ↦
         let first = one-at given low high may parts are new.0 of.0 new.2 in
-        let at : i ≡ length given = omega (arith, new.1, first.0) in
-        (low, (may.lower, may.low_there, refl),
-        subst (λ l. Contains l i) (sym (heirs-are low true (low == high) (eq-eqb low low refl) refl)) (0, omega arith, sym at))
+        let at : i ≡ length given = omega (arith, new.1, first.0) in (
+          low,
+          (may.lower, may.low_there, refl),
+          subst (λ l. Contains l i) (sym (heirs-are low true (low == high) (eq-eqb low low refl) refl)) (0, omega arith, sym at),
+        )
   ]
 
   -- the part's order is then that after the merge
@@ -109,9 +115,9 @@ module _ (given : List Given) (low high : ℕ) (may : MayMerge given low high) (
   merge-orders orders order kept at =
       subst (λ all. AreOrders all (set orders may.lower.part (flat_map heirs order))) (sym (merge-is given low high may parts are))
       (orders-exchanged either given rest (both ∷ []) (two-ended low high given) orders may.lower.part (flat_map heirs order) kept
-          (kept.there low (fresh may.lower) may.low_there) ended-part
-          (λ k b there. ap (λ (c : Bounds). c.part) (sym (one-at given low high may parts are k b there).1))
-          (order-of_heirs given after may.lower.part order heirs (kept.each may.lower.part order at) merge-heirs))
+      (kept.there low (fresh may.lower) may.low_there) ended-part
+      (λ k b there. ap (λ (c : Bounds). c.part) (sym (one-at given low high may parts are k b there).1))
+      (order-of_heirs given after may.lower.part order heirs (kept.each may.lower.part order at) merge-heirs))
 
 -- a merge of intervals with their orders keeps both
 pub merge-kept : (given : List Given) (low high : ℕ) (orders : List (List ℕ)) (part first : ℕ) (old new : List ℕ)
@@ -131,4 +137,19 @@ merge-kept given low high orders part first old new are kept none of at next mad
       subst (λ l. AreOrders (once_merged low high given) (set orders part l)) (sym is)
           (subst (λ p. AreOrders (once_merged low high given) (set orders p (flat_map (after_merge low high (length given)) old))) same
           (merge-orders given low high may (length orders) are orders old kept (ap (slice_get orders) same ∙ there))),
+    )
+
+-- with the order put in its place, intervals and orders after the merge are what they are to be
+pub merge-done : (given seen made : List Given) (low high : ℕ) (orders lent put : List (List ℕ)) (part : ℕ) (order : List ℕ)
+    → AreDivided (length orders) given → seen ≡ given → lent ≡ orders → merge_refusal seen low high ≡ None
+    → AreOrders (once_merged low high seen) (set lent part order) → made ≡ once_merged low high given → put ≡ set orders part order
+    → AreDivided (length put) made × AreOrders made put
+merge-done given seen made low high orders lent put part order are same own none kept is at =
+    let may = may-merge given low high (ap (λ all. merge_refusal all low high) (sym same) ∙ none) in
+    let many : length orders ≡ length put = sym (ap length at ∙ length-set orders part order) in
+    let all = sym (is ∙ ap (once_merged low high) (sym same)) in (
+      subst (λ n. AreDivided n made) many
+          (subst (AreDivided (length orders)) (sym is) (merge-divided given low high may (length orders) are)),
+      subst (AreOrders made) (ap (λ l. set l part order) own ∙ sym at)
+          (subst (λ l. AreOrders l (set lent part order)) all kept),
     )

@@ -1,5 +1,5 @@
 -- The order of a part's live intervals where some end and others are appended.
-use Rattle.std.proofs.Common.{◌≡◌, ◌<◌, ◌≤◌, ◌+◌, ◌∙◌, ◌⊎◌, ◌++◌, ◌∷◌, [], ℕ, zero, suc, List, Bool, true, false, Some, length, get_or, set, arith, refl, sym, ap, subst, inl, inr}
+use Rattle.std.proofs.Common.{◌≡◌, ◌<◌, ◌∙◌, ◌++◌, ◌∷◌, [], ℕ, zero, suc, List, Bool, true, false, Some, arith, refl, sym, ap, subst, inl, inr}
 use Rattle.std.specs.Prelude.{slice_get, Contains, flat_map}
 use Rattle.std.specs.List.{AllByRecursion}
 use Rattle.std.specs.Option.{option_map, option_map_or}
@@ -11,7 +11,7 @@ use Rattle.list_lemmas.proofs.Places.{each-at}
 use Rattle.mw_types.specs.Orders.{key_cmp}
 use Rattle.key_intervals.specs.declared.bounds.Bounds.{Bounds}
 use Rattle.key_intervals.specs.declared.given.Given.{Given}
-use Rattle.key_intervals.specs.Division.{bounds_at, fresh}
+use Rattle.key_intervals.specs.Division.{fresh}
 use Rattle.key_intervals.specs.Index.{AreInOrder, BeginsBefore, IsOfPart, IsOrder, from_of}
 use Rattle.key_intervals.proofs.GivenLists.{AreEnded, with_fresh, live-kept, live-origin}
 use Rattle.key_intervals.proofs.KeyOrder.{below_upto, upto_itself}
@@ -100,8 +100,8 @@ order-of_heirs given after part numbers heirs is are = record {
     across m n of too before =
         each-weaker (IsHeir given after part m) (λ h. AllByRecursion (BeginsBefore after h) (heirs n))
         (λ h heir. each-weaker (IsHeir given after part n) (BeginsBefore after h)
-            (λ k other. below_upto (from_of after h) (from_of given n) (from_of after k) (heir.early n too before) other.late)
-            (heirs n) (are.each n too)) (heirs m) (are.each m of)
+        (λ k other. below_upto (from_of after h) (from_of given n) (from_of after k) (heir.early n too before) other.late)
+        (heirs n) (are.each n too)) (heirs m) (are.each m of)
 
 -- a number that stays is its own heir
 pub kept-heir : (given after : List Given) (part n : ℕ) (b : Bounds) → slice_get given n ≡ Some (fresh b) → slice_get after n ≡ Some (fresh b)
@@ -126,8 +126,11 @@ module _ (test : ℕ → Bool) (given rest : List Given) (added : List Bounds) (
   order-kept part numbers stays none is =
       subst (IsOrder (with_fresh rest added) part) (become-itself numbers)
       (order-of_heirs given (with_fresh rest added) part numbers (λ n. n ∷ []) is (record {
-        each = λ n of. (kept-heir given (with_fresh rest added) part n of.0 of.1
-            (live-kept test given rest added ended n of.0 of.1 (stays n of)) of.2, tt);
+        each = λ n of. (
+          kept-heir given (with_fresh rest added) part n of.0 of.1
+              (live-kept test given rest added ended n of.0 of.1 (stays n of)) of.2,
+          tt,
+        );
         ordered = λ n of. (tt, tt);
         whole = λ i of. elim (live-origin test given rest added ended i of.0 of.1) [
           | inl old ↦ (i, (of.0, old.0, of.2), (0, omega arith, refl))

@@ -1,18 +1,18 @@
 -- The orders of all parts where some intervals of one part end and others of it are appended.
-use Rattle.std.proofs.Common.{◌≡◌, ◌<◌, ◌∙◌, ◌⊎◌, ℕ, zero, suc, List, [], ◌∷◌, Bool, true, false, Some, length, set, arith, refl, sym, ap, subst, inl, inr, true≢false}
+use Rattle.std.proofs.Common.{◌≡◌, ◌<◌, ◌∙◌, ◌⊎◌, ℕ, zero, suc, List, [], ◌∷◌, Bool, true, false, Some, length, set, arith, refl, sym, ap, subst, inl, inr}
 use Rattle.std.specs.Prelude.{slice_get}
 use Rattle.std.specs.Ordering.{is_le}
 use Rattle.std.specs.declared.cmp.Ordering.TheVariants.{Less}
 use Rattle.std.proofs.lemmas.Bool.{cases_eq, false_from_ne_true}
 use Rattle.std.proofs.lemmas.List.{length-set}
-use Rattle.list_lemmas.proofs.Lists.{none_some, some_same}
+use Rattle.list_lemmas.proofs.Lists.{some_same}
 use Rattle.mw_types.specs.Orders.{key_cmp}
 use Rattle.mw_types.specs.declared.identity.RowName.{RowName}
 use Rattle.key_intervals.specs.declared.bounds.Bounds.{Bounds}
 use Rattle.key_intervals.specs.declared.given.Given.{Given}
 use Rattle.key_intervals.specs.Intervals.{covers, ends_after}
 use Rattle.key_intervals.specs.Division.{fresh, AreDivided}
-use Rattle.key_intervals.specs.Index.{AreOrders, IsOfPart, IsOrder}
+use Rattle.key_intervals.specs.Index.{AreOrders, IsOrder}
 use Rattle.key_intervals.proofs.GivenLists.{AreEnded, with_fresh, bounds-origin}
 use Rattle.key_intervals.proofs.KeyOrder.{below_is_upto, never_back, upto_itself}
 use Rattle.key_intervals.proofs.Lookup.{has_row}
@@ -50,7 +50,7 @@ module _ (test : ℕ → Bool) (given rest : List Given) (added : List Bounds) (
     (is : IsOrder (with_fresh rest added) part order) where
   -- with the new order of that part the orders are those of the parts
   pub orders-exchanged : AreOrders (with_fresh rest added) (set orders part order)
-  orders-exchanged = record { there = there; each = λ q numbers at. by_part q numbers at (cases_eq q part); }
+  orders-exchanged = record { there = there; each = λ q numbers at. by_part q numbers at (cases_eq q part) }
     where
       there : (n : ℕ) (g : Given) → slice_get (with_fresh rest added) n ≡ Some g → g.bounds.part < length (set orders part order)
       there n g at = elim (bounds-origin test given rest added ended n g at) [

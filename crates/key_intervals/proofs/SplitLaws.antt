@@ -1,5 +1,5 @@
 -- A split that is not refused leaves each row in one live interval.
-use Rattle.std.proofs.Common.{◌≡◌, ◌<◌, ◌≤◌, ◌+◌, ◌∙◌, ◌⊎◌, ◌==◌, ◌&&◌, ◌++◌, ◌∷◌, [], ℕ, zero, suc, List, Bool, true, false, cond, not, Some, None, length, arith, refl, sym, ap, subst, inl, inr, true≢false}
+use Rattle.std.proofs.Common.{◌≡◌, ◌≤◌, ◌+◌, ◌∙◌, ◌⊎◌, ◌==◌, ◌&&◌, ◌++◌, ◌∷◌, [], ℕ, zero, suc, List, Bool, true, false, cond, not, Some, None, length, refl, sym, ap, subst, inl, inr, true≢false}
 use Rattle.std.specs.Prelude.{Option, nat_le, nat_lt, slice_get}
 use Rattle.std.specs.Option.{option_map, option_map_or}
 use Rattle.std.specs.Ordering.{is_lt}
@@ -13,7 +13,7 @@ use Rattle.key_intervals.specs.declared.bounds.Bounds.{Bounds}
 use Rattle.key_intervals.specs.declared.given.Given.{Given}
 use Rattle.key_intervals.specs.declared.TheConstants.{INTERVALS_MAX}
 use Rattle.key_intervals.specs.Intervals.{covers, ends_after}
-use Rattle.key_intervals.specs.Division.{bounds_at, fresh, is_live, lower_of, once_ended, once_split, upper_of, AreDivided, HasLive}
+use Rattle.key_intervals.specs.Division.{fresh, is_live, lower_of, once_ended, once_split, upper_of, AreDivided, HasLive}
 use Rattle.key_intervals.specs.Refusing.{may_cut, may_cut_at, split_refusal}
 use Rattle.key_intervals.proofs.CutLaws.{in_a_half, in_one_half, lower-within, upper-within}
 use Rattle.key_intervals.proofs.Exchanged.{HaveTheirRows, exchanged-divided}

@@ -14,7 +14,7 @@ use Rattle.key_intervals.specs.declared.bounds.Bounds.{Bounds}
 use Rattle.key_intervals.specs.declared.given.Given.{Given}
 use Rattle.key_intervals.specs.Intervals.{ends_after}
 use Rattle.key_intervals.specs.Division.{bounds_at, fresh, lower_of, once_ended, once_split, upper_of, AreDivided}
-use Rattle.key_intervals.specs.Index.{after_split, from_of, AreInOrder, AreOrders, BeginsBefore, IsOfPart, IsOrder}
+use Rattle.key_intervals.specs.Index.{after_split, from_of, AreInOrder, AreOrders, BeginsBefore, IsOfPart}
 use Rattle.key_intervals.specs.Refusing.{split_refusal}
 use Rattle.key_intervals.proofs.Beginnings.{above}
 use Rattle.key_intervals.proofs.GivenLists.{added-at, live-kept, live-origin, one-ended, with_fresh}
@@ -70,7 +70,7 @@ module _ (given : List Given) (interval : ℕ) (cut : List ℕ) (may : MaySplit 
             ends-by parts given interval other may.bounds there.0 are may.there there.1 (sym there.2) begins in
             ap (λ key. key_cmp key (from_of given other)) is ∙ ap (key_cmp cut) next
             ∙ above there.0.from cut (false_from_ne_true (is_le (key_cmp there.0.from cut))
-                (λ le. true≢false (sym (ends_before there.0.from cut may.bounds.to le may.below) ∙ ends)));
+            (λ le. true≢false (sym (ends_before there.0.from cut may.bounds.to le may.below) ∙ ends)));
       }
 
   -- what stands in the place of a number
@@ -87,21 +87,28 @@ module _ (given : List Given) (interval : ℕ) (cut : List ℕ) (may : MaySplit 
       → AllByRecursion (IsHeir given after may.bounds.part n) (heirs n)
   each-heir n of true same = subst (AllByRecursion (IsHeir given after may.bounds.part n)) (sym (heirs-split n same))
       (low-heir n (eqb-true n interval same), (high-heir n (eqb-true n interval same), tt))
-  each-heir n of false other = subst (AllByRecursion (IsHeir given after may.bounds.part n)) (sym (heirs-kept n other))
-      (kept-heir given after may.bounds.part n of.0 of.1
-      (live-kept (λ i. i == interval) given (once_ended interval given) (halves_at given interval cut may) (one-ended interval given)
-          n of.0 of.1 other) of.2, tt)
+  each-heir n of false other = subst (AllByRecursion (IsHeir given after may.bounds.part n)) (sym (heirs-kept n other)) (
+    kept-heir given after may.bounds.part n of.0 of.1
+        (live-kept (λ i. i == interval) given (once_ended interval given) (halves_at given interval cut may) (one-ended interval given)
+        n of.0 of.1 other) of.2,
+    tt,
+  )
 
   ordered-heirs : (n : ℕ) (t : Bool) → (n == interval) ≡ t → AreInOrder (BeginsBefore after) (heirs n)
-  ordered-heirs n true same = subst (AreInOrder (BeginsBefore after)) (sym (heirs-split n same))
-      ((ap (λ key. key_cmp key (from_of after (length given + 1))) (from-is after (length given) (lower_of cut may.bounds) low-at)
-      ∙ ap (key_cmp may.bounds.from) (from-is after (length given + 1) (upper_of cut may.bounds) high-at) ∙ may.above, tt), (tt, tt))
+  ordered-heirs n true same = subst (AreInOrder (BeginsBefore after)) (sym (heirs-split n same)) (
+    (
+      ap (λ key. key_cmp key (from_of after (length given + 1))) (from-is after (length given) (lower_of cut may.bounds) low-at)
+          ∙ ap (key_cmp may.bounds.from) (from-is after (length given + 1) (upper_of cut may.bounds) high-at) ∙ may.above,
+      tt,
+    ),
+    (tt, tt),
+  )
   ordered-heirs n false other = subst (AreInOrder (BeginsBefore after)) (sym (heirs-kept n other)) (tt, tt)
 
   whole-heirs : (i : ℕ) → IsOfPart after may.bounds.part i → (n : ℕ) × IsOfPart given may.bounds.part n × Contains (heirs n) i
   whole-heirs i of =
       by_origin (live-origin (λ i. i == interval) given (once_ended interval given) (halves_at given interval cut may)
-          (one-ended interval given) i of.0 of.1)
+      (one-ended interval given) i of.0 of.1)
     where
       halved : (n : ℕ) → n ≡ interval → heirs n ≡ length given ∷ (length given + 1) ∷ []
       halved n same = heirs-split n (eq-eqb n interval same)
@@ -149,8 +156,8 @@ module _ (given : List Given) (interval : ℕ) (cut : List ℕ) (may : MaySplit 
   split-orders orders order kept at =
       subst (λ all. AreOrders all (set orders may.bounds.part (flat_map heirs order))) (sym (split-is given interval cut may))
       (orders-exchanged (λ i. i == interval) given (once_ended interval given) (halves_at given interval cut may) (one-ended interval given)
-          orders may.bounds.part (flat_map heirs order) kept (kept.there interval (fresh may.bounds) may.there) ended-part added-part
-          (order-of_heirs given after may.bounds.part order heirs (kept.each may.bounds.part order at) split-heirs))
+      orders may.bounds.part (flat_map heirs order) kept (kept.there interval (fresh may.bounds) may.there) ended-part added-part
+      (order-of_heirs given after may.bounds.part order heirs (kept.each may.bounds.part order at) split-heirs))
 
 -- a split of intervals with their orders keeps both
 pub split-kept : (injectors : ℕ) (given : List Given) (interval : ℕ) (cut : List ℕ) (orders : List (List ℕ)) (part first : ℕ) (old new : List ℕ)
@@ -170,4 +177,19 @@ split-kept injectors given interval cut orders part first old new are kept none 
       subst (λ l. AreOrders (once_split interval cut given) (set orders part l)) (sym is)
           (subst (λ p. AreOrders (once_split interval cut given) (set orders p (flat_map (after_split interval (length given)) old))) same
           (split-orders given interval cut may (length orders) are orders old kept (ap (slice_get orders) same ∙ there))),
+    )
+
+-- with the order put in its place, intervals and orders after the split are what they are to be
+pub split-done : (injectors : ℕ) (given seen made : List Given) (interval : ℕ) (cut : List ℕ) (orders lent put : List (List ℕ)) (part : ℕ)
+    (order : List ℕ) → AreDivided (length orders) given → seen ≡ given → lent ≡ orders → split_refusal injectors seen interval cut ≡ None
+    → AreOrders (once_split interval cut seen) (set lent part order) → made ≡ once_split interval cut given → put ≡ set orders part order
+    → AreDivided (length put) made × AreOrders made put
+split-done injectors given seen made interval cut orders lent put part order are same own none kept is at =
+    let may = may-split injectors given interval cut (ap (λ all. split_refusal injectors all interval cut) (sym same) ∙ none) in
+    let many : length orders ≡ length put = sym (ap length at ∙ length-set orders part order) in
+    let all = sym (is ∙ ap (once_split interval cut) (sym same)) in (
+      subst (λ n. AreDivided n made) many
+          (subst (AreDivided (length orders)) (sym is) (split-divided given interval cut may (length orders) are)),
+      subst (AreOrders made) (ap (λ l. set l part order) own ∙ sym at)
+          (subst (λ l. AreOrders l (set lent part order)) all kept),
     )

@@ -1,7 +1,7 @@
 -- Which intervals there are while they are split and merged: Akidau et al., VLDB 2013, section 7.1, where the intervals
 -- of a computation move from one worker to another. Own: that they are split and merged, and their numbers, each of
 -- which is given once, to bounds that stay.
-use Rattle.std.specs.Prelude.{◌≡◌, ◌<◌, ◌≤◌, ◌++◌, ◌∷◌, ◌&&◌, ◌==◌, [], ℕ, zero, suc, List, Bool, true, false, Option, Some, None, length, slice_get}
+use Rattle.std.specs.Prelude.{◌≡◌, ◌<◌, ◌≤◌, ◌++◌, ◌∷◌, ◌&&◌, ◌==◌, [], ℕ, zero, suc, List, Bool, true, false, Option, Some, length, slice_get}
 use Rattle.std.specs.Option.{option_map, option_map_or}
 use Rattle.std.specs.List.{position_from}
 use Rattle.mw_types.specs.declared.identity.RowName.{RowName}

@@ -1,4 +1,6 @@
 //! An interval that was given a number.
+ghost use Rattle.std.specs.Prelude.{◌≡◌};
+ghost use Rattle.key_intervals.specs.Division.{fresh};
 
 use crate::bounds::Bounds;
 use mw_types::{Duplicate, NoMemory};
@@ -21,4 +23,11 @@ impl Duplicate for Given {
             live: self.live,
         })
     }
+}
+
+// An interval that has just got its number.
+pub(crate) fn fresh(bounds: Bounds) -> Given
+    ensures { result ≡ fresh bounds }
+{
+    Given { bounds, live: true }
 }

@@ -9,10 +9,10 @@ use crate::INTERVALS_MAX;
 use crate::bounds::Bounds;
 use crate::given::Given;
 use crate::making::push_part;
-use crate::merging::{merge_in, part_to_merge};
-use crate::order::{Order, last_begun};
+use crate::merging::{merge_in, merged_order};
+use crate::order::{Order, last_begun, put};
 use crate::refusals::{MergeRefusal, SplitRefusal};
-use crate::splitting::{part_to_split, split_in};
+use crate::splitting::{split_in, split_order};
 use mw_types::{Duplicate, Key, NoMemory, PartCuts, RowName};
 use std::alloc::Global;
 use std::marker::Model;
@@ -35,7 +35,10 @@ impl Model for Intervals {
     ghost Value = { Division };
 
     ghost view = { λ i. record {
-        parts = length i.orders.items; injectors = i.injectors; given = i.all.items } };
+      parts = length i.orders.items;
+      injectors = i.injectors;
+      given = i.all.items;
+    } };
 
     ghost invariant = { λ i. AreDivided (length i.orders.items) i.all.items
         × AreOrders i.all.items i.orders.items };
@@ -115,11 +118,11 @@ impl Intervals {
             ⊎ (split_refusal self.old.injectors self.old.given interval cut.now ≡ Some why)) }
         ensures unchanged { OnErr result (self.new ≡ self.old) }
     {
-        let part = part_to_split(self.injectors, self.all.as_slice(), interval, cut)?;
-        let first = self.all.len() as u32;
-        let order = self.orders[part as usize].split(alloc, interval, first)?;
-        split_in(alloc, &mut self.all, interval, cut)?;
-        self.orders[part as usize] = order;
+        let all = self.all.as_slice();
+        let orders = self.orders.as_slice();
+        let (part, order) = split_order(alloc, self.injectors, all, orders, interval, cut)?;
+        let first = split_in(alloc, &mut self.all, interval, cut)?;
+        put(&mut self.orders, part, order);
         Ok(first)
     }
 
@@ -136,11 +139,11 @@ impl Intervals {
             ⊎ (merge_refusal self.old.given low high ≡ Some why)) }
         ensures unchanged { OnErr result (self.new ≡ self.old) }
     {
-        let part = part_to_merge(self.all.as_slice(), low, high)?;
-        let first = self.all.len() as u32;
-        let order = self.orders[part as usize].merged(alloc, low, high, first)?;
-        merge_in(alloc, &mut self.all, low, high)?;
-        self.orders[part as usize] = order;
+        let all = self.all.as_slice();
+        let orders = self.orders.as_slice();
+        let (part, order) = merged_order(alloc, all, orders, low, high)?;
+        let first = merge_in(alloc, &mut self.all, low, high)?;
+        put(&mut self.orders, part, order);
         Ok(first)
     }
 }

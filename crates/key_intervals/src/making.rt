@@ -6,7 +6,7 @@ ghost use Rattle.key_intervals.specs.Intervals.{part_bounds_of};
 ghost use Rattle.key_intervals.specs.Division.{fresh};
 
 use crate::bounds::Bounds;
-use crate::given::Given;
+use crate::given::{Given, fresh};
 use crate::order::Order;
 use mw_types::{Duplicate, Key, NoMemory, PartCuts};
 use std::alloc::Global;
@@ -49,26 +49,26 @@ fn push_intervals(alloc: Global, all: &mut Vec<Given>, part: &PartCuts) -> Resul
 {
     let mut from = Key::none(alloc);
     for cut in part.cuts.as_slice() {
-        let next = cut.copy(alloc)?;
-        push_up_to(alloc, all, part.part, from, cut)?;
-        from = next;
+        from = push_up_to(alloc, all, part.part, from, cut)?;
     }
     push_fresh(all, part.part, from, None)
 }
 
-// Appends the interval of a part from one key on and below another.
+// Appends the interval of a part from one key on and below another, with which the next one begins.
 fn push_up_to(
     alloc: Global,
     all: &mut Vec<Given>,
     part: u32,
     from: Key,
     end: &Key,
-) -> Result<(), NoMemory>
-    ensures { OnOk result (all.new.items
+) -> Result<Key, NoMemory>
+    ensures all { OnOk result (all.new.items
         ≡ all.old.items ++ fresh (record { part = part; from = from; to = Some end.now }) ∷ []) }
+    ensures next { IfOk result (λ next. next ≡ end.now) }
 {
     let to = Some(end.copy(alloc)?);
-    push_fresh(all, part, from, to)
+    push_fresh(all, part, from, to)?;
+    end.copy(alloc)
 }
 
 // Appends the interval of a part from one key on and below another where there is one.
@@ -76,7 +76,6 @@ fn push_fresh(all: &mut Vec<Given>, part: u32, from: Key, to: Option<Key>) -> Re
     ensures { OnOk result (all.new.items
         ≡ all.old.items ++ fresh (record { part = part; from = from; to = to }) ∷ []) }
 {
-    let bounds = Bounds { part, from, to };
-    all.push(Given { bounds, live: true })?;
+    all.push(fresh(Bounds { part, from, to }))?;
     Ok(())
 }

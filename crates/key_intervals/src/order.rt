@@ -1,5 +1,5 @@
 //! The numbers of one part's live intervals, in the order of their first keys.
-ghost use Rattle.std.specs.Prelude.{◌≡◌, ◌<◌, ◌++◌, All, IfOk, OnOk, length, flat_map};
+ghost use Rattle.std.specs.Prelude.{◌≡◌, ◌<◌, ◌++◌, All, IfOk, OnOk, length, flat_map, slice_set};
 ghost use Rattle.key_intervals.specs.declared.TheConstants.{INTERVALS_MAX};
 ghost use Rattle.key_intervals.specs.declared.given.Given.{Given};
 ghost use Rattle.key_intervals.specs.Index.{after_merge, after_split, begins_by_key, IsLastBegun};
@@ -74,6 +74,14 @@ impl Order {
         }
         Ok(Order { numbers })
     }
+}
+
+// Puts another order in the place of a part's.
+pub(crate) fn put(orders: &mut Vec<Order>, part: u32, order: Order)
+    requires there { part < length orders.old.items }
+    ensures { orders.new.items ≡ slice_set orders.old.items part order }
+{
+    orders[part as usize] = order;
 }
 
 // Appends what stands in the place of a number after a split.

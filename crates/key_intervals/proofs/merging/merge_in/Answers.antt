@@ -10,6 +10,6 @@ end-requires-2 c = record {
 pub returns-clause-merged : goal.returns-clause-merged
 returns-clause-merged c =
     merge-made c.args.low c.args.high c.args.all.now.items c.reserve.new.self.items c.push_reserved.new.self.items
-    c.end.new.all.items c.end-2.new.all.items c.index.result.now c.index-2.result.now c.in_ok-bounds.bounds c.requires.low c.requires.high
-    c.reserve.ensures.items c.index.ensures c.index-2.ensures c.in_ok-bounds.ensures c.push_reserved.ensures.items
-    c.end.ensures.ended c.end-2.ensures.ended
+    c.end.new.all.items c.end-2.new.all.items c.index.result.now c.index-2.result.now c.fresh.result c.in_ok-bounds.bounds
+    c.requires.low c.requires.high c.reserve.ensures.items c.index.ensures c.index-2.ensures c.in_ok-bounds.ensures c.fresh.ensures
+    c.push_reserved.ensures.items c.end.ensures.ended c.end-2.ensures.ended

@@ -12,7 +12,7 @@ last_begun-place-requires-clause-some c =
     let there = subst (λ (d : Division). name.part < d.parts) (sym c.self.view_is) c.requires.part in
     some-given (length orders) given c.numbers-numbers.result.now name c.self.invariant.0
     (order-there given orders name.part c.index.result.now c.numbers-numbers.result.now c.self.invariant.1 there c.index.ensures
-        c.numbers-numbers.ensures) there
+    c.numbers-numbers.ensures) there
 
 pub last_begun-place-requires-clause-there : goal.last_begun-place-requires-clause-there
 last_begun-place-requires-clause-there c =
@@ -22,7 +22,7 @@ last_begun-place-requires-clause-there c =
     let there = subst (λ (d : Division). name.part < d.parts) (sym c.self.view_is) c.requires.part in
     let within = all-given (length orders) given c.numbers-numbers.result.now name c.self.invariant.0
     (order-there given orders name.part c.index.result.now c.numbers-numbers.result.now c.self.invariant.1 there c.index.ensures
-        c.numbers-numbers.ensures) there in
+    c.numbers-numbers.ensures) there in
     λ k d less. subst (λ n. get_or c.numbers-numbers.result.now k d < n) (ap length (sym c.as_slice.ensures.value)) (within k d less)
 
 pub returns : goal.returns
