@@ -32,8 +32,7 @@ impl<'a, K: Keeper> Book<'a, K> {
         entry: &EntryRef<'_>,
         commit: u64,
     ) -> Result<u64, WriteRefusal>
-        requires drafting {
-            IsDrafting self.old name.now row.old draft.old commit (lent entry.now) }
+        requires drafting { IsDrafting self.old name.now row.old draft.old commit (lent entry.now) }
         requires below { commit < 2 ^ 32 }
         ensures appended { OnOk result
             (self.new.history ≡ self.old.history ++ lent entry.now ∷ []) }

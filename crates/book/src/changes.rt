@@ -93,7 +93,17 @@ pub(crate) fn handling(
     let own = with_state(alloc, &effects.state, timers)?;
     let made = effects.productions.as_slice();
     let late = delivery.item.late;
-    sending(alloc, case, name, row, own, Some(delivery.id), made, late, commit)
+    sending(
+        alloc,
+        case,
+        name,
+        row,
+        own,
+        Some(delivery.id),
+        made,
+        late,
+        commit,
+    )
 }
 
 // What a fired timer changes.

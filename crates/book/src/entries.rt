@@ -1,6 +1,5 @@
 //! What a proposal writes, as values: its entry, and the row that the entry leaves.
 ghost use Rattle.std.specs.Prelude.{◌≡◌, ◌<◌, ◌^◌, IfOk, true};
-ghost use Rattle.row_parts.specs.Contents.{Contents};
 ghost use Rattle.run_history.specs.Fits.{fits};
 ghost use Rattle.run_history.specs.Lent.{lent};
 ghost use Rattle.run_history.specs.Made.{produced};

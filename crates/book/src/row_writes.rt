@@ -1,5 +1,5 @@
 //! Writes by kind: each changes its row where it lies and appends its entry, or leaves both as they were.
-ghost use Rattle.std.specs.Prelude.{◌≡◌, ◌<◌, ◌-◌, ◌≤◌, ◌^◌, ◌⊎◌, [], length, take, IfErr, IfOk, IfSome, OnErr, OnOk, Some};
+ghost use Rattle.std.specs.Prelude.{◌≡◌, ◌<◌, ◌-◌, ◌≤◌, ◌^◌, ◌⊎◌, [], length, take, IfErr, IfOk, IfSome, OnErr, Some};
 ghost use Rattle.mw_types.specs.Causes.{HasCause};
 ghost use Rattle.mw_types.specs.declared.entry.Entry.TheVariants.{Ack, Purge};
 ghost use Rattle.row_parts.specs.Contents.{IsRow, ids_from};

@@ -16,8 +16,7 @@ put_draft-done-requires-clause-drafting g c =
     let entry = entries.Inject c.seq.result c.args.name.now.part c.args.line c.in-Ok.made.0 in
     IsDrafting-proposed c.args.self.now c.args.lease.now c.args.front c.args.name.now c.args.row.now c.in-Ok.made.1 c.args.commit
     proposal entry c.requires.admitted c.requires.lease c.requires.row c.requires.line
-    (told-then c.args.self.now.rows _ _ c.requires.row.known (λ r is. tt))
-    (
+    (told-then c.args.self.now.rows _ _ c.requires.row.known (λ r is. tt)) (
       c.in-Ok.made.0,
       (
         subst (λ (x : CaseShape). option_map record_of (item_at (source_of x c.args.name.now.part) c.args.line) ≡ Some c.in-Ok.made.0)
@@ -37,8 +36,7 @@ returns-clause-written g c =
     IsWrittenBy-drafted c.args.self.now c.put_draft-done.new.self c.args.lease.now c.args.front c.args.name.now c.args.row.now
     c.put_draft-done.new.row c.in-Ok.made.1 c.args.commit proposal entry c.put_draft-done.result
     c.requires.admitted c.requires.lease c.requires.row c.requires.line
-    (told-then c.args.self.now.rows _ _ c.requires.row.known (λ r is. tt))
-    (
+    (told-then c.args.self.now.rows _ _ c.requires.row.known (λ r is. tt)) (
       c.in-Ok.made.0,
       (
         subst (λ (x : CaseShape). option_map record_of (item_at (source_of x c.args.name.now.part) c.args.line) ≡ Some c.in-Ok.made.0)
