@@ -1,14 +1,8 @@
-use Rattle.std.proofs.Common.{◌∙◌, sym}
+use Rattle.std.proofs.Common.{◌∙◌}
 use Rattle.list_lemmas.proofs.Told.{on_err-anyway}
 use Rattle.run_history.specs.Lent.{lent}
-use Rattle.run_history.specs.Packing.{counts_of}
 use Rattle.run_history.proofs.Packings.{map_kept, packed_appended, unpacked_appended, unpacked_taken_back}
 use Rattle.run_history.proofs.history.History.push_lent.Goals as goal
-
--- the details that are the last are this entry's
-pub append-requires-clause-last : goal.append-requires-clause-last
-append-requires-clause-last c =
-    (counts_of c.self.inside.details, c.in_ok-packed.ensures.counted.0, sym c.in_ok-packed.ensures.counted.1)
 
 pub returns-in_err-packed-clause-unchanged : goal.returns-in_err-packed-clause-unchanged
 returns-in_err-packed-clause-unchanged c = on_err-anyway c.from_residual.result
