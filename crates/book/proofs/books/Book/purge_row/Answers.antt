@@ -13,7 +13,7 @@ pub append_left-requires-clause-next : goal.append_left-requires-clause-next
 append_left-requires-clause-next g c =
     let book = c.args.self.now in
     let entry = Purge c.args.lease.now.seq c.args.name.now c.args.floor in
-    let left = c.in-Ok.new.row in
+    let left = c.forget.new.row in
     subst (λ n. IsNext book.case (core_of book) c.args.name.now (Purge n c.args.name.now c.args.floor) left) (sym c.seq.ensures)
     (IsNext-purged book c.args.lease.now c.args.front c.args.name.now c.args.row.now left c.args.floor
     c.requires.admitted.lawful c.requires.lease c.requires.row c.requires.floor c.requires.admitted.last c.requires.admitted.room
@@ -23,7 +23,7 @@ append_left-requires-clause-next g c =
 pub append_left-requires-clause-left : goal.append_left-requires-clause-left
 append_left-requires-clause-left g c =
     let book = c.args.self.now in
-    let same : work_in book.case c.args.name.now c.in-Ok.new.row ≡ work_in book.case c.args.name.now c.args.row.now
+    let same : work_in book.case c.args.name.now c.forget.new.row ≡ work_in book.case c.args.name.now c.args.row.now
     = ap (work_in book.case c.args.name.now) c.in-Ok.ensures.left in (
       c.args.row.now,
       (
@@ -40,7 +40,7 @@ returns-in-Ok-append_left-clause-written g c =
     let entry = Purge c.args.lease.now.seq c.args.name.now c.args.floor in
     let left = written_row (length book.history) entry [] c.args.row.now in
     IsWritten-next book c.append_left.new.self c.args.lease.now c.args.name.now entry left
-    (answer_of c.in-Ok-append_left.commit c.in-Ok.new.row)
+    (answer_of c.in-Ok-append_left.commit c.forget.new.row)
     (IsNext-purged book c.args.lease.now c.args.front c.args.name.now c.args.row.now left c.args.floor
     c.requires.admitted.lawful c.requires.lease c.requires.row c.requires.floor c.requires.admitted.last c.requires.admitted.room refl)
     c.requires.admitted.last
