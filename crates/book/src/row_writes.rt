@@ -59,7 +59,7 @@ impl<'a, K: Keeper> Book<'a, K> {
         ensures same { IsSameBook self.old self.new }
     {
         let case = self.case();
-        let (item, mut draft) = match injecting(alloc, case, name, row, line, commit) {
+        let mut made = match injecting(alloc, case, name, row, line, commit) {
             Ok(made) => made,
             Err(want) => return Err(want.into()),
         };
@@ -67,10 +67,10 @@ impl<'a, K: Keeper> Book<'a, K> {
             seq: lease.seq(),
             part: name.part,
             line,
-            item: &item,
+            item: &made.item,
         };
-        let done = self.put_draft(alloc, name, row, &mut draft, &entry, commit);
-        drop((draft, item));
+        let done = self.put_draft(alloc, name, row, &mut made.draft, &entry, commit);
+        drop(made);
         done
     }
 
@@ -253,16 +253,9 @@ impl<'a, K: Keeper> Book<'a, K> {
             floor,
         };
         let left = self.work_now();
-        match self.append_left(alloc, name, &entry, row, None, left, 0) {
-            Ok(commit) => {
-                drop(before);
-                Ok(commit)
-            }
-            Err(why) => {
-                put_back(row, before);
-                Err(why)
-            }
-        }
+        let done = self.append_left(alloc, name, &entry, row, None, left, 0);
+        keep_or_put_back(row, before, done);
+        done
     }
 
     // How much work is left once a delivery is settled.
@@ -313,6 +306,18 @@ fn forget(alloc: Global, row: &mut Row, floor: u64, commit: u64) -> Result<Befor
     row.purge(floor);
     row.last = commit;
     Ok(before)
+}
+
+// Puts back into a row what it had before it forgot ids, where the entry that had it do so was refused.
+fn keep_or_put_back(row: &mut Row, before: Before, done: Result<u64, WriteRefusal>)
+    requires { IsRow (with_seen before row.old) }
+    ensures kept { OnOk done (row.new ≡ row.old) }
+    ensures back { OnErr done (row.new ≡ with_seen before row.old) }
+{
+    match done {
+        Ok(_) => drop(before),
+        Err(_) => put_back(row, before),
+    }
 }
 
 // Puts back into a row what it had before it forgot ids.
