@@ -1,5 +1,5 @@
 -- What a proposal may change of its row.
-use Rattle.std.proofs.Common.{◌≡◌, ◌≤◌, ◌<◌, ◌^◌, ◌++◌, ℕ, List, length, Bool, true, arith, subst, sym, ap, ◌∙◌}
+use Rattle.std.proofs.Common.{◌≡◌, ◌≤◌, ◌<◌, ◌^◌, ◌++◌, ℕ, List, length, Bool, true, arith, subst, sym}
 use Rattle.std.specs.Prelude.{All, IfSome, false}
 use Rattle.std.specs.List.Sorted.{IsStrictlySortedBy}
 use Rattle.mw_types.specs.declared.TheConstants.{MAX_STAMP}

@@ -1,5 +1,5 @@
 -- What a write makes of the row of its entry, and when it may. No public clause cites this module.
-use Rattle.std.specs.Prelude.{◌≡◌, ◌<◌, ◌≤◌, ◌-◌, ◌++◌, ◌^◌, ℕ, List, length, All, IfSome, false}
+use Rattle.std.specs.Prelude.{◌≡◌, ◌<◌, ◌≤◌, ◌-◌, ◌++◌, ◌^◌, ℕ, length, All, IfSome, false}
 use Rattle.std.specs.List.Sorted.{IsStrictlySortedBy}
 use Rattle.mw_types.specs.Bounds.{IsWithin}
 use Rattle.mw_types.specs.declared.TheConstants.{MAX_STAMP}
@@ -15,6 +15,7 @@ use Rattle.book.specs.Books.{BookView, LeaseView, core_of}
 use Rattle.book.specs.Conditions.{IsRowOf}
 use Rattle.book.specs.Lawful.{IsLawful}
 use Rattle.book.specs.declared.drafts.Draft.{Draft}
+use Rattle.book.specs.declared.row_writes.Before.{Before}
 
 -- a lease was found to be the last of its interval, and there is room for an entry of this number
 pub record IsAdmitted (book : BookView) (lease : LeaseView) (commit : ℕ) : Type 0 where
@@ -31,6 +32,10 @@ drafted draft commit row = record (with_own draft.own (grown draft.id draft.sent
 -- a row once a draft is taken out of it, which had so many pending and this last entry before
 abbrev pub undrafted : Draft → ℕ → ℕ → Contents → Contents
 undrafted draft count last row = shrunk draft.id count (record (with_own draft.own row) { last = last })
+
+-- a row with the ids, the floor and the last entry that it had before a purge
+abbrev pub with_seen : Before → Contents → Contents
+with_seen before row = record row { seen = before.seen; floor = before.floor; last = before.last }
 
 -- a row may have a state and timers in the place of its own
 pub record AreOwn (own : Own) : Type 0 where

@@ -8,7 +8,7 @@ ghost use Rattle.book.specs.Books.{core_of};
 ghost use Rattle.book.specs.Conditions.{IsRowOf};
 ghost use Rattle.book.specs.Answers.{HasStayed, IsSameBook};
 ghost use Rattle.book.specs.Appending.{HadWork, IsNext, LeavesWork, left_row, sent_by};
-ghost use Rattle.book.specs.Drafts.{IsDrafting, drafted};
+ghost use Rattle.book.specs.Drafts.{AreOwn, IsDrafting, MayDraft, drafted, undrafted};
 
 use crate::books::Book;
 use crate::drafts::Draft;
@@ -18,7 +18,7 @@ use crate::work_left::{work_in, work_with};
 use mw_types::{NoMemory, RowName};
 use row_keeper::Keeper;
 use row_parts::Row;
-use run_history::EntryRef;
+use run_history::{Case, EntryRef};
 use std::alloc::Global;
 
 impl<'a, K: Keeper> Book<'a, K> {
@@ -46,10 +46,47 @@ impl<'a, K: Keeper> Book<'a, K> {
         ensures unchanged { OnErr result (HasStayed self.old self.new) }
         ensures same { IsSameBook self.old self.new }
     {
-        let gone = work_in(self.case(), name, row)?;
         let count = count_pending(row);
         let last = row.last;
-        draft.put_in(alloc, row, commit)?;
+        let case = self.case();
+        match put_over(alloc, case, name, row, draft, commit) {
+            Ok(gone) => self.append_drafted(alloc, name, gone, entry, row, draft, (count, last)),
+            Err(want) => Err(want.into()),
+        }
+    }
+
+    // Appends the entry that put a draft into a row, in which so much work was, so many were pending, and which
+    // had this last entry. Takes the draft out where that is refused.
+    fn append_drafted(
+        &mut self,
+        alloc: Global,
+        name: &RowName,
+        gone: u64,
+        entry: &EntryRef<'_>,
+        row: &mut Row,
+        draft: &mut Draft,
+        before: (usize, u64),
+    ) -> Result<u64, WriteRefusal>
+        requires next { IsNext self.old.case (core_of self.old) name.now (lent entry.now) row.old }
+        requires sent { length row.old.pending - before.0
+            ≡ sent_by self.old.case.topology self.old.history (lent entry.now) }
+        requires was { HadWork self.old name.now gone }
+        requires own { AreOwn draft.old.own }
+        requires back { IsRow (undrafted draft.old before.0 before.1 row.old) }
+        ensures appended { OnOk result
+            (self.new.history ≡ self.old.history ++ lent entry.now ∷ []) }
+        ensures commit { IfOk result (λ commit. commit ≡ length self.old.history) }
+        ensures kept { OnOk result (row.new ≡ row.old) }
+        ensures back { OnErr result
+            (row.new ≡ undrafted draft.old before.0 before.1 row.old) }
+        ensures refused { IfErr result (λ why.
+            (why ≡ WriteRefusal.NoMemory) ⊎ (why ≡ WriteRefusal.KeeperFault)) }
+        ensures keeper_fault { HasCause self.old.faults self.new.faults result
+            WriteRefusal.KeeperFault }
+        ensures unchanged { OnErr result (HasStayed self.old self.new) }
+        ensures same { IsSameBook self.old self.new }
+    {
+        let (count, last) = before;
         let sent = sent_since(row, count);
         match self.append_row(alloc, name, gone, entry, row, sent) {
             Ok(commit) => Ok(commit),
@@ -152,4 +189,27 @@ fn sent_since(row: &Row, count: usize) -> u32
     ensures { result ≡ length row.now.pending - count }
 {
     row.pending.len().saturating_sub(count) as u32
+}
+
+// Puts a draft into a row, and answers how much work was in it.
+fn put_over(
+    alloc: Global,
+    case: &Case,
+    name: &RowName,
+    row: &mut Row,
+    draft: &mut Draft,
+    commit: u64,
+) -> Result<u64, NoMemory>
+    requires may { MayDraft row.old draft.old }
+    requires commit { commit < 2 ^ 32 }
+    ensures gone { IfOk result (λ gone. gone ≡ work_in case.now name.now row.old) }
+    ensures put { OnOk result (row.new ≡ drafted draft.old commit row.old) }
+    ensures own { OnOk result (AreOwn draft.new.own) }
+    ensures back { OnOk result
+        (undrafted draft.new (length row.old.pending) row.old.last row.new ≡ row.old) }
+    ensures err { OnErr result (row.new ≡ row.old) }
+{
+    let gone = work_in(case, name, row)?;
+    draft.put_in(alloc, row, commit)?;
+    Ok(gone)
 }

@@ -26,6 +26,13 @@ use std::alloc::Global;
 use std::slice::from_ref;
 
 // The record of an injected line, and what the line changes.
+#[derive(Drop)]
+pub(crate) struct Injected {
+    pub(crate) item: Record,
+    pub(crate) draft: Draft,
+}
+
+// What an injected line changes, and its record.
 pub(crate) fn injecting(
     alloc: Global,
     case: &Case,
@@ -33,20 +40,20 @@ pub(crate) fn injecting(
     row: &Row,
     line: u32,
     commit: u64,
-) -> Result<(Record, Draft), NoMemory>
+) -> Result<Injected, NoMemory>
     requires line { IsNextLine case.now name.now row.now line }
     requires fit { fits case.now commit name.now row.now ≡ true }
     requires commit { commit < 2 ^ 32 }
-    ensures item { IfOk result (λ made.
-        option_map record_of (item_at (source_of case.now name.now.part) line) ≡ Some made.0) }
-    ensures may { IfOk result (λ made. MayDraft row.now made.1) }
+    ensures item { let source = source_of case.now name.now.part in IfOk result
+        (λ made. option_map record_of (item_at source line) ≡ Some made.item) }
+    ensures may { IfOk result (λ made. MayDraft row.now made.draft) }
     ensures left { IfOk result (λ made.
-        let item = made.0 in
+        let item = made.item in
         let production : Production
         = record { key = item.key; stamp = item.stamp; value = item.value } in
         let sent = deliveries_made case.now.topology name.now.part
         (production ∷ []) item.late commit in
-        drafted made.1 commit row.now ≡ record row.now {
+        drafted made.draft commit row.now ≡ record row.now {
           state = advanced row.now.state;
           pending = row.now.pending ++ sent;
           last = commit;
@@ -61,7 +68,10 @@ pub(crate) fn injecting(
     };
     let productions = from_ref(&production);
     match sending(alloc, case, name, row, own, None, productions, late, commit) {
-        Ok(draft) => Ok((record_of(production, late), draft)),
+        Ok(draft) => Ok(Injected {
+            item: record_of(production, late),
+            draft,
+        }),
         Err(want) => {
             drop(production);
             Err(want)
@@ -168,7 +178,8 @@ fn sending(
     requires id { IfSome id IsId }
     requires new { IfSome id (λ id. is_finished id row.now ≡ false) }
     ensures may { IfOk result (MayDraft row.now) }
-    ensures made { let sent = deliveries_made case.now.topology name.now.part made.now late commit in
+    ensures made { let shape = case.now.topology in
+        let sent = deliveries_made shape name.now.part made.now late commit in
         IfOk result (λ draft. draft ≡ record { own = own; id = id; sent = sent }) }
 {
     row.sound();

@@ -6,7 +6,7 @@ ghost use Rattle.run_history.specs.Made.{produced};
 ghost use Rattle.book.specs.Drafts.{MayDraft, drafted};
 ghost use Rattle.book.specs.Proposals.{IsEntryOf, IsNextLine, IsProposable, left_by};
 
-use crate::changes::{firing, handling, injecting};
+use crate::changes::{Injected, firing, handling, injecting};
 use crate::drafts::Draft;
 use crate::proposal::Proposal;
 use mw_types::{Duplicate, Entry, NoMemory, Production, Record, RowName};
@@ -89,7 +89,7 @@ fn injected(
     ensures left { IfOk result (λ step. step.left
         ≡ left_by case.now.topology name.now (Proposal.Inject line) commit step.entry row.now) }
 {
-    let (item, draft) = injecting(alloc, case, name, row, line, commit)?;
+    let Injected { item, draft } = injecting(alloc, case, name, row, line, commit)?;
     match changed(alloc, row, draft, commit) {
         Ok(left) => Ok(Step {
             entry: Entry::Inject {

@@ -1,5 +1,5 @@
 //! Writes by kind: each changes its row where it lies and appends its entry, or leaves both as they were.
-ghost use Rattle.std.specs.Prelude.{◌≡◌, ◌<◌, ◌-◌, ◌≤◌, ◌^◌, ◌⊎◌, [], length, take, IfErr, IfOk, IfSome, OnErr, Some};
+ghost use Rattle.std.specs.Prelude.{◌≡◌, ◌<◌, ◌-◌, ◌≤◌, ◌^◌, ◌⊎◌, [], length, take, IfErr, IfOk, IfSome, OnErr, OnOk, Some};
 ghost use Rattle.mw_types.specs.Causes.{HasCause};
 ghost use Rattle.mw_types.specs.declared.entry.Entry.TheVariants.{Ack, Purge};
 ghost use Rattle.row_parts.specs.Contents.{IsRow, ids_from};
@@ -7,7 +7,7 @@ ghost use Rattle.run_history.specs.Runs.{run_of, written_row};
 ghost use Rattle.book.specs.Answers.{HasStayed, IsSameBook, IsWritten, answer_of};
 ghost use Rattle.book.specs.Appending.{left_row};
 ghost use Rattle.book.specs.Conditions.{IsRowSeenAt, MayForgetAt, MaySettleAt, MayUseAt};
-ghost use Rattle.book.specs.Drafts.{IsAdmitted};
+ghost use Rattle.book.specs.Drafts.{IsAdmitted, with_seen};
 ghost use Rattle.book.specs.Proposals.{IsFiring, IsHandling, IsNextLine, IsProposedOf, IsWrittenBy};
 
 use crate::books::Book;
@@ -16,12 +16,20 @@ use crate::lease::Lease;
 use crate::proposal::Proposal;
 use crate::refusals::WriteRefusal;
 use crate::settling::Settled;
-use mw_types::{Delivery, Duplicate, Effects, IdList, RecordId, RowName, Timer};
+use mw_types::{Delivery, Duplicate, Effects, IdList, NoMemory, RecordId, RowName, Timer};
 use row_keeper::Keeper;
 use row_parts::Row;
 use run_history::EntryRef;
 use std::alloc::Global;
 use std::mem::replace;
+
+// What a purge changes of a row, as it was before.
+#[derive(Drop)]
+struct Before {
+    seen: IdList,
+    floor: u64,
+    last: u64,
+}
 
 impl<'a, K: Keeper> Book<'a, K> {
     // An injector's next line is injected. Answers the entry's commit number, as each of these does.
@@ -51,7 +59,7 @@ impl<'a, K: Keeper> Book<'a, K> {
         ensures same { IsSameBook self.old self.new }
     {
         let case = self.case();
-        let (item, mut draft) = match injecting(alloc, case, name, row, line, commit) {
+        let mut made = match injecting(alloc, case, name, row, line, commit) {
             Ok(made) => made,
             Err(want) => return Err(want.into()),
         };
@@ -59,11 +67,10 @@ impl<'a, K: Keeper> Book<'a, K> {
             seq: lease.seq(),
             part: name.part,
             line,
-            item: &item,
+            item: &made.item,
         };
-        let done = self.put_draft(alloc, name, row, &mut draft, &entry, commit);
-        drop(draft);
-        drop(item);
+        let done = self.put_draft(alloc, name, row, &mut made.draft, &entry, commit);
+        drop(made);
         done
     }
 
@@ -236,8 +243,8 @@ impl<'a, K: Keeper> Book<'a, K> {
         ensures unchanged { OnErr result (HasStayed self.old self.new) }
         ensures same { IsSameBook self.old self.new }
     {
-        let seen = match row.seen.copy(alloc) {
-            Ok(seen) => seen,
+        let before = match forget(alloc, row, floor, commit) {
+            Ok(before) => before,
             Err(want) => return Err(want.into()),
         };
         let entry = EntryRef::Purge {
@@ -245,18 +252,10 @@ impl<'a, K: Keeper> Book<'a, K> {
             row: name,
             floor,
         };
-        let (old, last) = raise_floor(row, floor, commit);
         let left = self.work_now();
-        match self.append_left(alloc, name, &entry, row, None, left, 0) {
-            Ok(commit) => {
-                drop(seen);
-                Ok(commit)
-            }
-            Err(why) => {
-                put_back(row, seen, old, last);
-                Err(why)
-            }
-        }
+        let done = self.append_left(alloc, name, &entry, row, None, left, 0);
+        keep_or_put_back(row, before, done);
+        done
     }
 
     // How much work is left once a delivery is settled.
@@ -283,31 +282,50 @@ fn take_settled(row: &mut Row, settled: Settled)
     row.last = settled.commit;
 }
 
-// Has a row forget the ids below a floor. Answers the floor and the last entry that it had.
-fn raise_floor(row: &mut Row, floor: u64, commit: u64) -> (u64, u64)
+// Has a row forget the ids below a floor, and answers what it had before.
+fn forget(alloc: Global, row: &mut Row, floor: u64, commit: u64) -> Result<Before, NoMemory>
     requires rises { row.old.floor < floor }
     requires few { floor ≤ 2 ^ 32 }
     requires commit { commit < 2 ^ 32 }
     ensures row { IsRow row.old }
-    ensures old { result ≡ (row.old.floor, row.old.last) }
-    ensures left { row.new ≡ record row.old {
+    ensures before { IfOk result (λ before. before
+        ≡ record { seen = row.old.seen; floor = row.old.floor; last = row.old.last }) }
+    ensures left { OnOk result (row.new ≡ record row.old {
       floor = floor;
       seen = ids_from floor row.old.seen;
       last = commit;
-    } }
+    }) }
+    ensures err { OnErr result (row.new ≡ row.old) }
 {
     row.sound();
-    let old = (row.floor, row.last);
+    let before = Before {
+        seen: row.seen.copy(alloc)?,
+        floor: row.floor,
+        last: row.last,
+    };
     row.purge(floor);
     row.last = commit;
-    old
+    Ok(before)
 }
 
-// Puts ids, a floor and a last entry back into a row.
-fn put_back(row: &mut Row, seen: IdList, floor: u64, last: u64)
-    requires { IsRow (record row.old { seen = seen; floor = floor; last = last }) }
-    ensures { row.new ≡ record row.old { seen = seen; floor = floor; last = last } }
+// Puts back into a row what it had before it forgot ids, where the entry that had it do so was refused.
+fn keep_or_put_back(row: &mut Row, before: Before, done: Result<u64, WriteRefusal>)
+    requires { IsRow (with_seen before row.old) }
+    ensures kept { OnOk done (row.new ≡ row.old) }
+    ensures back { OnErr done (row.new ≡ with_seen before row.old) }
 {
+    match done {
+        Ok(_) => drop(before),
+        Err(_) => put_back(row, before),
+    }
+}
+
+// Puts back into a row what it had before it forgot ids.
+fn put_back(row: &mut Row, before: Before)
+    requires { IsRow (with_seen before row.old) }
+    ensures { row.new ≡ with_seen before row.old }
+{
+    let Before { seen, floor, last } = before;
     drop(replace(&mut row.seen, seen));
     row.floor = floor;
     row.last = last;

@@ -13,15 +13,15 @@ use Rattle.book.proofs.books.Book.inject_row.Goals as goal
 pub put_draft-done-requires-clause-drafting : goal.put_draft-done-requires-clause-drafting
 put_draft-done-requires-clause-drafting g c =
     let proposal = proposals.Inject c.args.line in
-    let entry = entries.Inject c.seq.result c.args.name.now.part c.args.line c.in-Ok.made.0 in
-    IsDrafting-proposed c.args.self.now c.args.lease.now c.args.front c.args.name.now c.args.row.now c.in-Ok.made.1 c.args.commit
+    let entry = entries.Inject c.seq.result c.args.name.now.part c.args.line c.in-Ok.made.item in
+    IsDrafting-proposed c.args.self.now c.args.lease.now c.args.front c.args.name.now c.args.row.now c.in-Ok.made.draft c.args.commit
     proposal entry c.requires.admitted c.requires.lease c.requires.row c.requires.line
     (told-then c.args.self.now.rows _ _ c.requires.row.known (λ r is. tt)) (
-      c.in-Ok.made.0,
+      c.in-Ok.made.item,
       (
-        subst (λ (x : CaseShape). option_map record_of (item_at (source_of x c.args.name.now.part) c.args.line) ≡ Some c.in-Ok.made.0)
+        subst (λ (x : CaseShape). option_map record_of (item_at (source_of x c.args.name.now.part) c.args.line) ≡ Some c.in-Ok.made.item)
             c.case-case.ensures.case c.in-Ok.ensures.item,
-        ap (λ n. entries.Inject n c.args.name.now.part c.args.line c.in-Ok.made.0) c.seq.ensures,
+        ap (λ n. entries.Inject n c.args.name.now.part c.args.line c.in-Ok.made.item) c.seq.ensures,
       ),
     )
     c.in-Ok.ensures.may
@@ -32,16 +32,16 @@ put_draft-done-requires-clause-drafting g c =
 pub returns-clause-written : goal.returns-clause-written
 returns-clause-written g c =
     let proposal = proposals.Inject c.args.line in
-    let entry = entries.Inject c.seq.result c.args.name.now.part c.args.line c.in-Ok.made.0 in
+    let entry = entries.Inject c.seq.result c.args.name.now.part c.args.line c.in-Ok.made.item in
     IsWrittenBy-drafted c.args.self.now c.put_draft-done.new.self c.args.lease.now c.args.front c.args.name.now c.args.row.now
-    c.put_draft-done.new.row c.in-Ok.made.1 c.args.commit proposal entry c.put_draft-done.result
+    c.put_draft-done.new.row c.in-Ok.made.draft c.args.commit proposal entry c.put_draft-done.result
     c.requires.admitted c.requires.lease c.requires.row c.requires.line
     (told-then c.args.self.now.rows _ _ c.requires.row.known (λ r is. tt)) (
-      c.in-Ok.made.0,
+      c.in-Ok.made.item,
       (
-        subst (λ (x : CaseShape). option_map record_of (item_at (source_of x c.args.name.now.part) c.args.line) ≡ Some c.in-Ok.made.0)
+        subst (λ (x : CaseShape). option_map record_of (item_at (source_of x c.args.name.now.part) c.args.line) ≡ Some c.in-Ok.made.item)
             c.case-case.ensures.case c.in-Ok.ensures.item,
-        ap (λ n. entries.Inject n c.args.name.now.part c.args.line c.in-Ok.made.0) c.seq.ensures,
+        ap (λ n. entries.Inject n c.args.name.now.part c.args.line c.in-Ok.made.item) c.seq.ensures,
       ),
     )
     (c.in-Ok.ensures.left ∙ (λ i. left_by (c.case-case.ensures.case i).topology c.args.name.now proposal

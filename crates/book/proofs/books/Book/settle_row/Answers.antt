@@ -1,11 +1,9 @@
-use Rattle.std.proofs.Common.{◌≡◌, ◌++◌, ◌∷◌, ◌∙◌, [], ap, length, refl, subst, sym}
-use Rattle.std.specs.Prelude.{Some}
-use Rattle.mw_types.specs.declared.entry.Entry.{Entry}
+use Rattle.std.proofs.Common.{◌++◌, ◌∷◌, ◌∙◌, [], ap, length, refl, subst, sym}
 use Rattle.mw_types.specs.declared.entry.Entry.TheVariants.{Ack}
 use Rattle.row_parts.specs.Contents.{IsId}
 use Rattle.run_history.specs.Runs.{written_row}
 use Rattle.book.specs.Answers.{answer_of}
-use Rattle.book.specs.Appending.{IsNext, left_row}
+use Rattle.book.specs.Appending.{IsNext}
 use Rattle.book.specs.Books.{core_of}
 use Rattle.book.specs.declared.settling.Settled.{Settled}
 use Rattle.book.proofs.LineLaws.{found-id}
