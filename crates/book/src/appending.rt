@@ -51,7 +51,7 @@ impl<'a, K: Keeper> Book<'a, K> {
         let case = self.case();
         match put_over(alloc, case, name, row, draft, commit) {
             Ok(gone) => self.append_drafted(alloc, name, gone, entry, row, draft, (count, last)),
-            Err(want) => Err(want.into()),
+            Err(NoMemory) => Err(WriteRefusal::NoMemory),
         }
     }
 
@@ -131,7 +131,7 @@ impl<'a, K: Keeper> Book<'a, K> {
     {
         match self.work_left(name, gone, row) {
             Ok(left) => self.append_left(alloc, name, entry, row, None, left, sent),
-            Err(want) => Err(want.into()),
+            Err(NoMemory) => Err(WriteRefusal::NoMemory),
         }
     }
 

@@ -61,7 +61,7 @@ impl<'a, K: Keeper> Book<'a, K> {
         let case = self.case();
         let mut made = match injecting(alloc, case, name, row, line, commit) {
             Ok(made) => made,
-            Err(want) => return Err(want.into()),
+            Err(NoMemory) => return Err(WriteRefusal::NoMemory),
         };
         let entry = EntryRef::Inject {
             seq: lease.seq(),
@@ -107,7 +107,7 @@ impl<'a, K: Keeper> Book<'a, K> {
         let case = self.case();
         let mut draft = match handling(alloc, case, name, row, delivery, effects, commit) {
             Ok(draft) => draft,
-            Err(want) => return Err(want.into()),
+            Err(NoMemory) => return Err(WriteRefusal::NoMemory),
         };
         let entry = EntryRef::Handle {
             seq: lease.seq(),
@@ -154,7 +154,7 @@ impl<'a, K: Keeper> Book<'a, K> {
         let case = self.case();
         let mut draft = match firing(alloc, case, name, row, timer, effects, commit) {
             Ok(draft) => draft,
-            Err(want) => return Err(want.into()),
+            Err(NoMemory) => return Err(WriteRefusal::NoMemory),
         };
         let entry = EntryRef::Fire {
             seq: lease.seq(),
@@ -245,7 +245,7 @@ impl<'a, K: Keeper> Book<'a, K> {
     {
         let before = match forget(alloc, row, floor, commit) {
             Ok(before) => before,
-            Err(want) => return Err(want.into()),
+            Err(NoMemory) => return Err(WriteRefusal::NoMemory),
         };
         let entry = EntryRef::Purge {
             seq: lease.seq(),
