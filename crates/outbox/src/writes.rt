@@ -51,7 +51,7 @@ pub fn write_work<D: Desk>(
     ensures fits { AreAllHeld case.now (D.view desk.new) held.new }
     ensures put { IfOk result (λ commit. HoldsPut case.now.topology
         (D.view desk.old) (D.view desk.new) interval parts.entry.0.now.to
-        (writings.Propose proposal) commit held.old held.new) }
+        (writings.Propose proposal.entry) commit held.old held.new) }
     ensures sent { IfOk result (λ commit. outbox.new.messages ≡ with_sends case.now.topology
         sender.now parts.entry.0.now parts.entry.1.now commit outbox.old.messages) }
     ensures unsent { OnErr result (outbox.new.messages ≡ outbox.old.messages) }
