@@ -43,6 +43,7 @@ impl Holdings {
         // The place comes first: once the desk has answered, no memory may be wanted.
         self.make_room(interval)?;
         desk.sound();
+        let _count = case.interval_count();
         let _bounds = case.bounds(interval);
         let claimed = desk.claim(alloc, worker, interval);
         desk.sound();

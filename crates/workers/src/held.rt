@@ -23,6 +23,7 @@ pub(crate) fn held_in<N: Seen>(node: &Node<N>, case: &Case) -> u32
 pub(crate) fn is_of(case: &Case, interval: u32, part: u32) -> bool
     requires there { interval < interval_count case.now.topology }
 {
+    let _count = case.interval_count();
     case.bounds(interval).part == part
 }
 

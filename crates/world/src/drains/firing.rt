@@ -71,6 +71,7 @@ fn fed_at<'a, K: Keeper>(book: &Book<'a, K>, interval: u32, last: Fed) -> Fed
         bounds.part ≡ result.part }
 {
     let case = book.case();
+    let _count = case.interval_count();
     let part = case.bounds(interval).part;
     if part == last.part {
         return last;
