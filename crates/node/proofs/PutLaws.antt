@@ -61,7 +61,7 @@ module _ (case : CaseShape) (old new : DeskView) (interval : ℕ) (name : RowNam
       → Fits case new (put_by node.held commit made was))
       → Fits case new node
   Fits-put done stands = elim done [
-    | inl on ↦ subst (Fits case new) on.1.1.left (stands on.0 on.1.1.put on.1.1.fit)
+    | inl on ↦ subst (Fits case new) on.2.left (stands on.0 on.2.put on.2.fit)
     | inr off ↦ off.fits
   ]
 
@@ -72,8 +72,8 @@ module _ (case : CaseShape) (old new : DeskView) (interval : ℕ) (name : RowNam
       → ((off : IsPutOff case old new interval was node result) → IfOk (answered off.why) (Answers node))
       → IfOk result (Answers node)
   answers-put Answers done stands refused = elim done [
-    | inl on ↦ subst (λ (r : Result Outcome NodeFault). IfOk r (Answers node)) (sym on.1.0)
-        (subst (λ (n : NodeView). Answers n (outcomes.Committed on.0)) on.1.1.left (stands on.0 on.1.1.put))
+    | inl on ↦ subst (λ (r : Result Outcome NodeFault). IfOk r (Answers node)) (sym on.1)
+        (subst (λ (n : NodeView). Answers n (outcomes.Committed on.0)) on.2.left (stands on.0 on.2.put))
     | inr off ↦ subst (λ (r : Result Outcome NodeFault). IfOk r (Answers node)) (sym off.answer) (refused off)
   ]
 
@@ -81,7 +81,7 @@ module _ (case : CaseShape) (old new : DeskView) (interval : ℕ) (name : RowNam
   pub fails-put : (Fails : NodeFault → Type 0) → HasPutOn case old new interval name writing made was node result
       → ((off : IsPutOff case old new interval was node result) → IfErr (answered off.why) Fails) → IfErr result Fails
   fails-put Fails done refused = elim done [
-    | inl on ↦ subst (λ (r : Result Outcome NodeFault). IfErr r Fails) (sym on.1.0) tt
+    | inl on ↦ subst (λ (r : Result Outcome NodeFault). IfErr r Fails) (sym on.1) tt
     | inr off ↦ subst (λ (r : Result Outcome NodeFault). IfErr r Fails) (sym off.answer) (refused off)
   ]
 

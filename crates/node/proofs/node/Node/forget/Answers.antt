@@ -33,7 +33,7 @@ returns-clause-fits g c =
     let was = c.args.self.now in
     let after = c.put_on.new.self in
     Fits-put case old new interval c.args.name.now _ _ was after c.put_on.result c.put_on.ensures.put
-    (λ commit h fit. subst (Fits case new) (put-nothing after.held commit _ was c.new.ensures.empty)
+    (λ commit h fit. subst (Fits case new) (put-nothing after.held commit _ was c.new.ensures.items)
     (Fits-purged case old new was interval c.args.name.now c.args.floor commit after.held h fit c.requires.may.1.free c.requires.fits))
 
 -- and answers what was asked
@@ -51,7 +51,7 @@ returns-clause-answers g c held there =
     let asked = forgetting held name c.args.floor in
     let Answers = λ (n : NodeView). AnswersWrite shape old new asked (worker_at was) was n in
     answers-put case old new interval name _ _ was after c.put_on.result Answers c.put_on.ensures.put
-    (λ commit h. subst (λ (n : NodeView). Answers n (outcomes.Committed commit)) (put-nothing after.held commit _ was c.new.ensures.empty)
+    (λ commit h. subst (λ (n : NodeView). Answers n (outcomes.Committed commit)) (put-nothing after.held commit _ was c.new.ensures.items)
     (answers-purged case old new was interval name c.args.floor commit after.held held at h))
     (λ off. refused-held case old new was off.asked after interval held asked off.why c.requires.fits at refl off.looked off.reason off.kept off.left)
 

@@ -1,6 +1,7 @@
 use Rattle.std.proofs.Common.{◌∙◌, ap, subst, sym, refl, inl, inr}
-use Rattle.std.specs.Prelude.{OnErr, Ok, Result}
-use Rattle.holdings.specs.Holding.{IsRefusedOf}
+use Rattle.std.specs.Prelude.{IfSome, OnErr, Ok, Result}
+use Rattle.book.specs.Writings.{MayPut}
+use Rattle.holdings.specs.Holding.{IsRefusedOf, held_at, row_held}
 use Rattle.node.specs.declared.outcome.NodeFault.{NodeFault}
 use Rattle.node.specs.declared.outcome.Outcome.{Outcome}
 use Rattle.node.specs.declared.outcome.Outcome.TheVariants as outcomes
@@ -37,9 +38,13 @@ pub returns-in-Ok-clause-grown : goal.returns-in-Ok-clause-grown
 returns-in-Ok-clause-grown g c =
     let old = g.D.Desk.view c.args.desk.now in
     let new = g.D.Desk.view c.write_made-written.new.desk in
+    let shape = c.args.case.now.topology in
+    let name = c.args.name.now in
+    let may = subst (λ (n : NodeView). IfSome (held_at n.held c.args.interval)
+    (λ here. MayPut old name (row_held shape here name) c.args.writing)) (sym c.self.view_is) c.requires.may in
     subst (λ (n : NodeView). HasGrown n.held old new) c.self.view_is
-    (grown-put c.args.case.now.topology old new c.args.interval c.args.name.now c.args.writing c.in-Ok.commit
-    c.self.inside.held c.write_made-written.new.held c.write_made-written.requires.may c.in-Ok.ensures.put)
+    (grown-put shape old new c.args.interval name c.args.writing c.in-Ok.commit c.self.inside.held c.write_made-written.new.held may
+    c.in-Ok.ensures.put)
 
 -- where the desk refused
 pub returns-in-Err-clause-put : goal.returns-in-Err-clause-put

@@ -24,7 +24,7 @@ returns-clause-fits g c =
     let was = c.args.self.now in
     let after = c.put_on.new.self in
     Fits-put case old new interval c.args.to.now _ _ was after c.put_on.result c.put_on.ensures.put
-    (λ commit h fit. subst (Fits case new) (put-nothing after.held commit _ was c.new.ensures.empty)
+    (λ commit h fit. subst (Fits case new) (put-nothing after.held commit _ was c.new.ensures.items)
     (Fits-settled case old new was interval c.args.to.now c.args.id commit after.held h fit c.requires.fits))
 
 -- and answers what was asked
@@ -46,7 +46,7 @@ returns-clause-answers g c =
     let waits = sym (c.is_pending.ensures.pending shape) ∙ pending in
     let Answers = λ (n : NodeView). AnswersAck shape old new (held_on shape was.held to) to id was n in
     answers-put case old new interval to _ _ was after c.put_on.result Answers c.put_on.ensures.put
-    (λ commit h. subst (λ (n : NodeView). Answers n (outcomes.Committed commit)) (put-nothing after.held commit _ was c.new.ensures.empty)
+    (λ commit h. subst (λ (n : NodeView). Answers n (outcomes.Committed commit)) (put-nothing after.held commit _ was c.new.ensures.items)
     (answers-settled case old new was interval to id commit after.held h c.interval_of-interval.ensures.interval
     (subst (λ (held : HeldView). is_some (found_delivery id (row_held shape held to).pending) ≡ true)
     (some_same here h.held (sym at ∙ h.was)) waits)))
