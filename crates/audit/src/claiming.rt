@@ -15,7 +15,7 @@ pub(crate) fn claim_of(case: &Case, worker: u32, interval: u32) -> Option<Entry>
     ensures { (history : List Entry) →
         IsChosen case.now history (choices.Claim worker interval) result }
 {
-    if worker < WORKERS && interval < case.intervals().count() {
+    if worker < WORKERS && interval < case.interval_count() {
         Some(Entry::Claim { worker, interval })
     } else {
         None

@@ -8,6 +8,7 @@ ghost use Rattle.book.specs.Sending.{HasSent, IsAfterEntry, IsLeastKnown};
 use crate::kept::Senders;
 use book::{settle, settled_by};
 use mw_types::{Duplicate, Entry, NoMemory, RecordId, RowName};
+use run_history::EntryRef;
 use std::alloc::Global;
 
 // Notes what an entry of a row sent, under its number, and what it acknowledged.
@@ -23,7 +24,7 @@ pub(crate) fn note_entry(
         senders.old.entries senders.new.entries) }
 {
     note_sent(alloc, senders, commit, sent, name)?;
-    settle(senders, settled_by(entry), name);
+    settle(senders, settled_by(&EntryRef::of(entry)), name);
     Ok(())
 }
 

@@ -13,6 +13,7 @@ pub mod SenderFloors
 pub mod SenderParts
 pub mod SentLaws
 pub mod Changing
+pub mod Drafting
 pub mod ProposalLaws
 pub mod Numbers
 pub mod DeskLaws

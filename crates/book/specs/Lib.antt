@@ -13,5 +13,6 @@ pub mod DeskReasons
 pub mod OwnDesks
 pub mod Storing
 pub mod Appending
+pub mod Drafts
 pub mod Sending
 pub mod Refusing

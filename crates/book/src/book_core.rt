@@ -4,6 +4,7 @@ ghost use Rattle.mw_types.specs.Causes.{HasCause};
 ghost use Rattle.mw_types.specs.declared.entry.Entry.TheVariants.{Claim};
 ghost use Rattle.row_parts.specs.Spelling.{IsSpelledRow, spelling_of};
 ghost use Rattle.row_keeper.specs.Rows.{AreInOrder, with_row};
+ghost use Rattle.run_history.specs.Lent.{lent};
 ghost use Rattle.run_history.specs.Made.{row_written};
 ghost use Rattle.run_history.specs.Fences.{last_claim};
 ghost use Rattle.watermark.specs.Marks.{mark_of};
@@ -21,7 +22,7 @@ use crate::storing::{grown_by, store};
 use mw_types::{Entry, NoMemory, RecordId, RowName};
 use row_keeper::{Keeper, KeeperFault};
 use row_parts::Row;
-use run_history::History;
+use run_history::{EntryRef, History};
 use std::alloc::Global;
 use std::collections::BTreeMap;
 use std::marker::Model;
@@ -80,7 +81,7 @@ impl<K: Keeper> Core<K> {
     pub(crate) fn append(
         &mut self,
         alloc: Global,
-        entry: Entry,
+        entry: &EntryRef<'_>,
         name: &RowName,
         row: &Row,
         settled: Option<Settled>,
@@ -90,17 +91,18 @@ impl<K: Keeper> Core<K> {
         requires below { IfSome settled (λ s. s.commit < 2 ^ 32) }
         requires held { IfSome settled
             (λ _. IfSome self.old.rows (AreBytesOf name.now row.now)) }
-        requires shorter { IfSome (grown_by settled entry sent)
+        requires shorter { IfSome (grown_by settled (lent entry.now) sent)
             (λ sent. IfSome self.old.rows (HaveShorter name.now sent row.now)) }
-        requires on_row { row_written entry ≡ Some name.now }
+        requires on_row { row_written (lent entry.now) ≡ Some name.now }
         requires unsent { IsUnsent (length self.old.history) self.old.unacknowledged }
-        ensures appended { OnOk result (self.new.history ≡ self.old.history ++ entry ∷ []) }
+        ensures appended { OnOk result
+            (self.new.history ≡ self.old.history ++ lent entry.now ∷ []) }
         ensures stored { let bytes = spelling_of (left_row settled row.now) in
             OnOk result (self.new.rows ≡ option_map (with_row name.now bytes) self.old.rows) }
         ensures own { OnOk result (IsSpelledRow (left_row settled row.now)) }
         ensures left { OnOk result (self.new.work ≡ left) }
-        ensures senders { OnOk result (IsAfterEntry (length self.old.history) entry name.now sent
-            self.old.unacknowledged self.new.unacknowledged) }
+        ensures senders { OnOk result (IsAfterEntry (length self.old.history) (lent entry.now)
+            name.now sent self.old.unacknowledged self.new.unacknowledged) }
         ensures limit { self.new.limit ≡ self.old.limit }
         ensures marks { self.new.marks ≡ self.old.marks }
         ensures same_left { OnErr result (self.new.work ≡ self.old.work) }
@@ -111,8 +113,8 @@ impl<K: Keeper> Core<K> {
         ensures failed { HasCause self.old.faults self.new.faults result KeeperFault.Failed }
     {
         let commit = self.history.len() as u64;
-        let acknowledged = settled_by(&entry);
-        let grown = grown_by(settled, &entry, sent);
+        let acknowledged = settled_by(entry);
+        let grown = grown_by(settled, entry, sent);
         note(
             alloc,
             &mut self.history,
@@ -196,19 +198,19 @@ fn note(
     alloc: Global,
     history: &mut History,
     senders: &mut Senders,
-    entry: Entry,
+    entry: &EntryRef<'_>,
     name: &RowName,
     sent: u32,
 ) -> Result<(), NoMemory>
     requires unsent { IsUnsent (length history.old) senders.old.entries }
-    ensures appended { OnOk result (history.new ≡ history.old ++ entry ∷ []) }
+    ensures appended { OnOk result (history.new ≡ history.old ++ lent entry.now ∷ []) }
     ensures sent { OnOk result
         (HasSent (length history.old) name.now sent senders.old.entries senders.new.entries) }
     ensures unchanged { OnErr result (history.new ≡ history.old) }
     ensures same { OnErr result (KnowsSame senders.old.entries senders.new.entries) }
 {
     let commit = history.len() as u64;
-    history.push(entry)?;
+    history.push_lent(alloc, entry)?;
     if let Err(NoMemory) = note_sent(alloc, senders, commit, sent, name) {
         forget_last(history);
         return Err(NoMemory);

@@ -249,7 +249,7 @@ fn first_marks(alloc: Global, case: &Case) -> Result<Vec<u64>, NoMemory>
         (λ marks. marks.items ≡ replicate (length (intervals_of case.now.topology)) 0) }
 {
     let mut marks = Vec::new(alloc);
-    for _ in 0..case.intervals().count() {
+    for _ in 0..case.interval_count() {
         marks.push(0)?;
     }
     Ok(marks)

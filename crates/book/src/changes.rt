@@ -1,147 +1,86 @@
-//! What a write changes in the row of its entry.
-ghost use Rattle.std.specs.Prelude.{◌≡◌, ◌++◌, ◌<◌, ◌≤◌, ◌^◌, All, [], IfOk, IfSome, IsTrue, MatchOption, OnOk, false, length, true};
-ghost use Rattle.std.specs.Option.{unwrap_or};
-ghost use Rattle.mw_types.specs.Bounds.{IsWithin};
+//! What a proposal changes in the row of its entry.
+ghost use Rattle.std.specs.Prelude.{◌≡◌, ◌++◌, ◌∷◌, ◌<◌, ◌≤◌, ◌^◌, All, [], IfOk, IfSome, IsTrue, OnOk, Some, false, length, true};
+ghost use Rattle.std.specs.Option.{option_map, unwrap_or};
 ghost use Rattle.mw_types.specs.declared.TheConstants.{MAX_STAMP};
-ghost use Rattle.mw_types.specs.declared.entry.Entry.TheVariants.{Ack, Purge};
+ghost use Rattle.mw_types.specs.declared.record.Production.{Production};
+ghost use Rattle.injector.specs.Sources.{item_at};
 ghost use Rattle.topology.specs.Shapes.{parts_of};
-ghost use Rattle.row_parts.specs.Changes.{MayMove, moved, with_ids};
-ghost use Rattle.row_parts.specs.Contents.{ArePending, AreSeen, AreTimers, IsId, ids_from, is_finished, with_id, without_timer};
+ghost use Rattle.row_parts.specs.Contents.{AreTimers, IsId, is_finished, without_timer};
+ghost use Rattle.run_history.specs.Cases.{record_of, source_of};
 ghost use Rattle.run_history.specs.Made.{deliveries_made};
-ghost use Rattle.run_history.specs.Runs.{with_timers, written_row};
+ghost use Rattle.run_history.specs.Runs.{advanced, fired_in, handled_in, with_timers};
 ghost use Rattle.run_history.specs.Fits.{fits};
-ghost use Rattle.book.specs.Proposals.{IsEntryOf, IsFiring, IsHandling, IsNextLine, IsProposable, left_by};
+ghost use Rattle.book.specs.Drafts.{AreOwn, MayDraft, drafted};
+ghost use Rattle.book.specs.Proposals.{IsFiring, IsHandling, IsNextLine};
 
-use crate::entries::{fire_entry, handle_entry, production_of, record_of};
-use crate::lease::Lease;
+use crate::drafts::Draft;
+use crate::entries::{production_of, record_of};
 use crate::pending::sent;
-use crate::proposal::Proposal;
 use mw_types::{
-    Delivery, DeliveryList, Duplicate, Effects, Entry, IdList, NoMemory, Production, RecordId,
-    RowName, State, Timer, TimerList,
+    Delivery, Duplicate, Effects, NoMemory, Production, Record, RecordId, RowName, State, Timer,
+    TimerList,
 };
-use row_parts::{Moves, Parts, Row, forget_below, is_set, set_timer, take_timer};
+use row_parts::{Own, Row, is_set, set_timer, take_timer};
 use run_history::Case;
 use std::alloc::Global;
 use std::slice::from_ref;
 
-// An entry, and what it changes of its row.
+// The record of an injected line, and what the line changes.
 #[derive(Drop)]
-pub(crate) struct Change {
-    pub(crate) entry: Entry,
-    pub(crate) moves: Moves,
+pub(crate) struct Injected {
+    pub(crate) item: Record,
+    pub(crate) draft: Draft,
 }
 
-// What a proposal changes under a sequencer, and the number of its entry.
-pub(crate) fn change_of(
+// What an injected line changes, and its record.
+pub(crate) fn injecting(
     alloc: Global,
     case: &Case,
-    seq: u64,
-    name: &RowName,
-    row: &Row,
-    proposal: &Proposal,
-    commit: u64,
-) -> Result<Change, NoMemory>
-    requires proposal { IsProposable case.now name.now row.now proposal.now }
-    requires fit { fits case.now commit name.now row.now ≡ true }
-    requires commit { commit < 2 ^ 32 }
-    ensures entry { IfOk result (λ change.
-        IsEntryOf case.now seq name.now proposal.now change.entry) }
-    ensures may { IfOk result (λ change. MayMove row.now change.moves) }
-    ensures left { IfOk result (λ change. moved change.moves row.now
-        ≡ left_by case.now.topology name.now proposal.now commit change.entry row.now) }
-{
-    match proposal {
-        Proposal::Inject { line } => injecting(alloc, case, seq, name, row, *line, commit),
-        Proposal::Handle { delivery, effects } => {
-            handling(alloc, case, seq, name, row, delivery, effects, commit)
-        }
-        Proposal::Fire {
-            timer,
-            mark,
-            effects,
-        } => firing(alloc, case, seq, name, row, *timer, *mark, effects, commit),
-    }
-}
-
-// What an injected line changes.
-fn injecting(
-    alloc: Global,
-    case: &Case,
-    seq: u64,
     name: &RowName,
     row: &Row,
     line: u32,
     commit: u64,
-) -> Result<Change, NoMemory>
+) -> Result<Injected, NoMemory>
     requires line { IsNextLine case.now name.now row.now line }
     requires fit { fits case.now commit name.now row.now ≡ true }
     requires commit { commit < 2 ^ 32 }
-    ensures entry { IfOk result (λ change.
-        IsEntryOf case.now seq name.now (Proposal.Inject line) change.entry) }
-    ensures may { IfOk result (λ change. MayMove row.now change.moves) }
-    ensures left { IfOk result (λ change. moved change.moves row.now
-        ≡ left_by case.now.topology name.now (Proposal.Inject line) commit
-        change.entry row.now) }
+    ensures item { let source = source_of case.now name.now.part in IfOk result
+        (λ made. option_map record_of (item_at source line) ≡ Some made.item) }
+    ensures may { IfOk result (λ made. MayDraft row.now made.draft) }
+    ensures left { IfOk result (λ made.
+        let item = made.item in
+        let production : Production
+        = record { key = item.key; stamp = item.stamp; value = item.value } in
+        let sent = deliveries_made case.now.topology name.now.part
+        (production ∷ []) item.late commit in
+        drafted made.draft commit row.now ≡ record row.now {
+          state = advanced row.now.state;
+          pending = row.now.pending ++ sent;
+          last = commit;
+        }) }
 {
     let item = case.line_record(alloc, name.part, line)?;
     let late = item.late;
     let production = production_of(item);
-    let state = State::Injector { cursor: line + 1 };
-    let moves = sending(
-        alloc,
-        case,
-        name,
-        row,
-        state,
-        None,
-        None,
-        from_ref(&production),
-        late,
-        commit,
-    )?;
-    let entry = Entry::Inject {
-        seq,
-        part: name.part,
-        line,
-        item: record_of(production, late),
+    let own = Own {
+        state: Some(State::Injector { cursor: line + 1 }),
+        timers: None,
     };
-    Ok(Change { entry, moves })
-}
-
-// What a handled record changes.
-fn handling(
-    alloc: Global,
-    case: &Case,
-    seq: u64,
-    name: &RowName,
-    row: &Row,
-    delivery: &Delivery,
-    effects: &Effects,
-    commit: u64,
-) -> Result<Change, NoMemory>
-    requires handling { IsHandling case.now name.now row.now delivery.now effects.now }
-    requires fit { fits case.now commit name.now row.now ≡ true }
-    requires commit { commit < 2 ^ 32 }
-    ensures entry { IfOk result (λ change.
-        IsEntryOf case.now seq name.now (Proposal.Handle delivery.now effects.now) change.entry) }
-    ensures may { IfOk result (λ change. MayMove row.now change.moves) }
-    ensures left { IfOk result (λ change. moved change.moves row.now
-        ≡ left_by case.now.topology name.now (Proposal.Handle delivery.now effects.now)
-        commit change.entry row.now) }
-{
-    let moves = handled(alloc, case, name, row, delivery, effects, commit)?;
-    match handle_entry(alloc, seq, name, delivery.id, effects) {
-        Ok(entry) => Ok(Change { entry, moves }),
+    let productions = from_ref(&production);
+    match sending(alloc, case, name, row, own, None, productions, late, commit) {
+        Ok(draft) => Ok(Injected {
+            item: record_of(production, late),
+            draft,
+        }),
         Err(want) => {
-            drop(moves);
+            drop(production);
             Err(want)
         }
     }
 }
 
-// What a handled record changes of its row.
-fn handled(
+// What a handled record changes.
+pub(crate) fn handling(
     alloc: Global,
     case: &Case,
     name: &RowName,
@@ -149,236 +88,108 @@ fn handled(
     delivery: &Delivery,
     effects: &Effects,
     commit: u64,
-) -> Result<Moves, NoMemory>
+) -> Result<Draft, NoMemory>
     requires handling { IsHandling case.now name.now row.now delivery.now effects.now }
     requires fit { fits case.now commit name.now row.now ≡ true }
     requires commit { commit < 2 ^ 32 }
-    ensures may { IfOk result (MayMove row.now) }
+    ensures may { IfOk result (MayDraft row.now) }
     ensures left { let late = delivery.now.item.late in
         let made = effects.now.productions in
         let sent = deliveries_made case.now.topology name.now.part made late commit in
-        IfOk result (λ moves. moved moves row.now ≡ record row.now {
-          state = effects.now.state;
-          timers = with_timers effects.now.timers row.now.timers;
-          pending = row.now.pending ++ sent;
-          seen = with_id delivery.now.id row.now.seen;
-          last = commit;
-        }) }
+        IfOk result (λ draft. drafted draft commit row.now
+        ≡ record (handled_in delivery.now.id effects.now sent row.now) { last = commit }) }
 {
     let timers = timers_set(alloc, &row.timers, effects.timers.as_slice())?;
-    let state = effects.state.copy(alloc)?;
+    let own = with_state(alloc, &effects.state, timers)?;
+    let made = effects.productions.as_slice();
+    let late = delivery.item.late;
     sending(
         alloc,
         case,
         name,
         row,
-        state,
-        timers,
+        own,
         Some(delivery.id),
-        effects.productions.as_slice(),
-        delivery.item.late,
+        made,
+        late,
         commit,
     )
 }
 
 // What a fired timer changes.
-fn firing(
+pub(crate) fn firing(
     alloc: Global,
     case: &Case,
-    seq: u64,
     name: &RowName,
     row: &Row,
     timer: Timer,
-    mark: u64,
     effects: &Effects,
     commit: u64,
-) -> Result<Change, NoMemory>
+) -> Result<Draft, NoMemory>
     requires firing { IsFiring case.now name.now row.now timer effects.now }
     requires fit { fits case.now commit name.now row.now ≡ true }
     requires commit { commit < 2 ^ 32 }
-    ensures entry { IfOk result (λ change.
-        IsEntryOf case.now seq name.now (Proposal.Fire timer mark effects.now) change.entry) }
-    ensures may { IfOk result (λ change. MayMove row.now change.moves) }
-    ensures left { IfOk result (λ change. moved change.moves row.now
-        ≡ left_by case.now.topology name.now (Proposal.Fire timer mark effects.now)
-        commit change.entry row.now) }
+    ensures may { IfOk result (MayDraft row.now) }
+    ensures left { let made = effects.now.productions in
+        let sent = deliveries_made case.now.topology name.now.part made timer.late commit in
+        IfOk result (λ draft. drafted draft commit row.now
+        ≡ record (fired_in timer effects.now sent row.now) { last = commit }) }
 {
-    let moves = fired(alloc, case, name, row, timer, effects, commit)?;
-    match fire_entry(alloc, seq, name, timer, mark, effects) {
-        Ok(entry) => Ok(Change { entry, moves }),
+    let timers = timers_but(alloc, &row.timers, timer)?;
+    let own = with_state(alloc, &effects.state, Some(timers))?;
+    let made = effects.productions.as_slice();
+    sending(alloc, case, name, row, own, None, made, timer.late, commit)
+}
+
+// A copy of a state, with these timers if there are any.
+fn with_state(alloc: Global, state: &State, timers: Option<TimerList>) -> Result<Own, NoMemory>
+    ensures { IfOk result (λ own. own ≡ record { state = Some state.now; timers = timers }) }
+{
+    match state.copy(alloc) {
+        Ok(state) => Ok(Own {
+            state: Some(state),
+            timers,
+        }),
         Err(want) => {
-            drop(moves);
+            drop(timers);
             Err(want)
         }
     }
 }
 
-// What a fired timer changes of its row.
-fn fired(
-    alloc: Global,
-    case: &Case,
-    name: &RowName,
-    row: &Row,
-    timer: Timer,
-    effects: &Effects,
-    commit: u64,
-) -> Result<Moves, NoMemory>
-    requires firing { IsFiring case.now name.now row.now timer effects.now }
-    requires fit { fits case.now commit name.now row.now ≡ true }
-    requires commit { commit < 2 ^ 32 }
-    ensures may { IfOk result (MayMove row.now) }
-    ensures left { let made = effects.now.productions in
-        let sent = deliveries_made case.now.topology name.now.part made timer.late commit in
-        IfOk result (λ moves. moved moves row.now ≡ record row.now {
-          state = effects.now.state;
-          timers = without_timer timer.tag timer.time row.now.timers;
-          pending = row.now.pending ++ sent;
-          last = commit;
-        }) }
-{
-    let timers = timers_but(alloc, &row.timers, timer)?;
-    let state = effects.state.copy(alloc)?;
-    sending(
-        alloc,
-        case,
-        name,
-        row,
-        state,
-        Some(timers),
-        None,
-        effects.productions.as_slice(),
-        timer.late,
-        commit,
-    )
-}
-
-// What these productions become is pending too in a row, which has this state, these timers if there are
-// any, and the id that it handles, if there is one.
+// A draft of this, and of what these productions become.
 fn sending(
     alloc: Global,
     case: &Case,
     name: &RowName,
     row: &Row,
-    state: State,
-    timers: Option<TimerList>,
+    own: Own,
     id: Option<RecordId>,
     made: &[Production],
     late: bool,
     commit: u64,
-) -> Result<Moves, NoMemory>
+) -> Result<Draft, NoMemory>
     requires part { name.now.part < parts_of case.now.topology }
     requires few { length made.now ≤ 8 }
     requires stamps { All (λ p. p.stamp ≤ MAX_STAMP) made.now }
     requires commit { commit < 2 ^ 32 }
     requires fit { fits case.now commit name.now row.now ≡ true }
-    requires state { IsWithin state }
-    requires timers { IfSome timers AreTimers }
+    requires own { AreOwn own }
     requires id { IfSome id IsId }
     requires new { IfSome id (λ id. is_finished id row.now ≡ false) }
-    ensures may { IfOk result (MayMove row.now) }
-    ensures left { let ds = deliveries_made case.now.topology name.now.part made.now late commit in
-        IfOk result (λ moves. moved moves row.now ≡ record row.now {
-          state = state;
-          timers = unwrap_or timers row.now.timers;
-          pending = row.now.pending ++ ds;
-          seen = with_ids id row.now.seen;
-          last = commit;
-        }) }
-{
-    let sent = match sent(alloc, case, name.part, made, late, commit) {
-        Ok(sent) => sent,
-        Err(want) => {
-            drop(state);
-            drop(timers);
-            return Err(want);
-        }
-    };
-    Ok(Moves {
-        parts: Parts {
-            state: Some(state),
-            timers,
-            pending: None,
-            seen: None,
-            floor: row.floor,
-            last: commit,
-        },
-        id,
-        sent,
-    })
-}
-
-// The change by which a row forgets the ids below a floor.
-pub(crate) fn purging(
-    alloc: Global,
-    lease: &Lease,
-    name: &RowName,
-    row: &Row,
-    floor: u64,
-    commit: u64,
-) -> Result<Change, NoMemory>
-    requires commit { commit < 2 ^ 32 }
-    requires few { floor ≤ 2 ^ 32 }
-    ensures entry { IfOk result (λ change. change.entry ≡ Purge lease.now.seq name.now floor) }
-    ensures may { IfOk result (λ change. MayMove row.now change.moves) }
-    ensures left { IfOk result (λ change. moved change.moves row.now
-        ≡ written_row commit (Purge lease.now.seq name.now floor) [] row.now) }
-{
-    let row_name = name.copy(alloc)?;
-    let seen = ids_left(alloc, row, floor)?;
-    Ok(Change {
-        entry: Entry::Purge {
-            seq: lease.seq(),
-            row: row_name,
-            floor,
-        },
-        moves: list_moves(alloc, row, None, Some(seen), floor, commit),
-    })
-}
-
-// Lists, and a floor, in the place of a row's own, which handles and produces nothing.
-fn list_moves(
-    alloc: Global,
-    row: &Row,
-    pending: Option<DeliveryList>,
-    seen: Option<IdList>,
-    floor: u64,
-    commit: u64,
-) -> Moves
-    requires pending { IfSome pending ArePending }
-    requires seen { MatchOption seen (floor ≡ row.now.floor) (AreSeen floor) }
-    requires floor { floor ≤ 2 ^ 32 }
-    requires commit { commit < 2 ^ 32 }
-    ensures may { MayMove row.now result }
-    ensures left { moved result row.now ≡ record row.now {
-      pending = unwrap_or pending row.now.pending;
-      seen = unwrap_or seen row.now.seen;
-      floor = floor;
-      last = commit;
-    } }
+    ensures may { IfOk result (MayDraft row.now) }
+    ensures made { let shape = case.now.topology in
+        let sent = deliveries_made shape name.now.part made.now late commit in
+        IfOk result (λ draft. draft ≡ record { own = own; id = id; sent = sent }) }
 {
     row.sound();
-    Moves {
-        parts: Parts {
-            state: None,
-            timers: None,
-            pending,
-            seen,
-            floor,
-            last: commit,
-        },
-        id: None,
-        sent: DeliveryList::new(alloc),
+    match sent(alloc, case, name.part, made, late, commit) {
+        Ok(sent) => Ok(Draft { own, id, sent }),
+        Err(want) => {
+            drop(own);
+            Err(want)
+        }
     }
-}
-
-// The ids of a row that are not below a floor, in a list without spare room.
-fn ids_left(alloc: Global, row: &Row, floor: u64) -> Result<IdList, NoMemory>
-    ensures left { IfOk result (λ ids. ids ≡ ids_from floor row.now.seen) }
-    ensures seen { IfOk result (AreSeen floor) }
-{
-    let mut seen = row.seen.copy(alloc)?;
-    forget_below(&mut seen, row.floor, floor);
-    Ok(seen)
 }
 
 // The timers but for this one.

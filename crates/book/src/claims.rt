@@ -103,7 +103,8 @@ impl<'a, K: Keeper> Book<'a, K> {
         ensures same { IsSameBook self.old self.new }
         ensures keeper_fault { HasCause self.old.faults self.new.faults result KeeperFault.Failed }
     {
-        let bounds = self.case.intervals().bounds(interval);
+        let _count = self.case.interval_count();
+        let bounds = self.case.bounds(interval);
         self.core.keeper.scan(alloc, bounds)
     }
 

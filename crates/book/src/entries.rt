@@ -1,16 +1,17 @@
-//! What a proposal writes: its entry, and the row that the entry leaves.
+//! What a proposal writes, as values: its entry, and the row that the entry leaves.
 ghost use Rattle.std.specs.Prelude.{◌≡◌, ◌<◌, ◌^◌, IfOk, true};
-ghost use Rattle.mw_types.specs.declared.entry.Entry.TheVariants.{Ack, Fire, Handle};
-ghost use Rattle.row_parts.specs.Changes.{MayMove, moved};
 ghost use Rattle.run_history.specs.Fits.{fits};
+ghost use Rattle.run_history.specs.Lent.{lent};
 ghost use Rattle.run_history.specs.Made.{produced};
-ghost use Rattle.book.specs.Proposals.{IsEntryOf, IsProposable, left_by};
+ghost use Rattle.book.specs.Drafts.{MayDraft, drafted};
+ghost use Rattle.book.specs.Proposals.{IsEntryOf, IsNextLine, IsProposable, left_by};
 
-use crate::changes::{Change, change_of};
+use crate::changes::{Injected, firing, handling, injecting};
+use crate::drafts::Draft;
 use crate::proposal::Proposal;
-use mw_types::{Duplicate, Effects, Entry, NoMemory, Production, Record, RecordId, RowName, Timer};
-use row_parts::{Moves, Row};
-use run_history::Case;
+use mw_types::{Duplicate, Entry, NoMemory, Production, Record, RowName};
+use row_parts::Row;
+use run_history::{Case, EntryRef};
 use std::alloc::Global;
 
 /// An entry, and the row that it leaves.
@@ -40,31 +41,111 @@ pub fn step_of(
     ensures left { IfOk result (λ step.
         step.left ≡ left_by case.now.topology name.now proposal.now commit step.entry row.now) }
 {
-    let Change { entry, moves } = change_of(alloc, case, seq, name, row, proposal, commit)?;
-    match changed(alloc, row, moves) {
-        Ok(left) => Ok(Step { entry, left }),
+    match proposal {
+        Proposal::Inject { line } => injected(alloc, case, seq, name, row, *line, commit),
+        Proposal::Handle { delivery, effects } => {
+            let draft = handling(alloc, case, name, row, delivery, effects, commit)?;
+            let entry = EntryRef::Handle {
+                seq,
+                row: name,
+                id: delivery.id,
+                effects,
+            };
+            stepped(alloc, row, draft, entry, commit)
+        }
+        Proposal::Fire {
+            timer,
+            mark,
+            effects,
+        } => {
+            let draft = firing(alloc, case, name, row, *timer, effects, commit)?;
+            let entry = EntryRef::Fire {
+                seq,
+                row: name,
+                timer: *timer,
+                mark: *mark,
+                effects,
+            };
+            stepped(alloc, row, draft, entry, commit)
+        }
+    }
+}
+
+// What an injected line writes.
+fn injected(
+    alloc: Global,
+    case: &Case,
+    seq: u64,
+    name: &RowName,
+    row: &Row,
+    line: u32,
+    commit: u64,
+) -> Result<Step, NoMemory>
+    requires line { IsNextLine case.now name.now row.now line }
+    requires fit { fits case.now commit name.now row.now ≡ true }
+    requires commit { commit < 2 ^ 32 }
+    ensures entry { IfOk result (λ step.
+        IsEntryOf case.now seq name.now (Proposal.Inject line) step.entry) }
+    ensures left { IfOk result (λ step. step.left
+        ≡ left_by case.now.topology name.now (Proposal.Inject line) commit step.entry row.now) }
+{
+    let Injected { item, draft } = injecting(alloc, case, name, row, line, commit)?;
+    match changed(alloc, row, draft, commit) {
+        Ok(left) => Ok(Step {
+            entry: Entry::Inject {
+                seq,
+                part: name.part,
+                line,
+                item,
+            },
+            left,
+        }),
         Err(want) => {
-            drop(entry);
+            drop(item);
             Err(want)
         }
     }
 }
 
-// A row with these changes, as a value.
-fn changed(alloc: Global, row: &Row, moves: Moves) -> Result<Row, NoMemory>
-    requires { MayMove row.now moves }
-    ensures { IfOk result (λ left. left ≡ moved moves row.now) }
+// A lent entry as a value, and the row with a draft in it, which the entry put there.
+fn stepped(
+    alloc: Global,
+    row: &Row,
+    draft: Draft,
+    entry: EntryRef<'_>,
+    commit: u64,
+) -> Result<Step, NoMemory>
+    requires may { MayDraft row.now draft }
+    requires commit { commit < 2 ^ 32 }
+    ensures entry { IfOk result (λ step. step.entry ≡ lent entry.entry) }
+    ensures left { IfOk result (λ step. step.left ≡ drafted draft commit row.now) }
 {
-    let mut moves = moves;
+    let left = changed(alloc, row, draft, commit)?;
+    match entry.copied(alloc) {
+        Ok(entry) => Ok(Step { entry, left }),
+        Err(want) => {
+            drop(left);
+            Err(want)
+        }
+    }
+}
+
+// A copy of a row with a draft in it.
+fn changed(alloc: Global, row: &Row, draft: Draft, commit: u64) -> Result<Row, NoMemory>
+    requires may { MayDraft row.now draft }
+    requires commit { commit < 2 ^ 32 }
+    ensures { IfOk result (λ left. left ≡ drafted draft commit row.now) }
+{
+    let mut draft = draft;
     let mut left = match row.copy(alloc) {
         Ok(left) => left,
         Err(want) => {
-            drop(moves);
+            drop(draft);
             return Err(want);
         }
     };
-    let done = left.apply(alloc, &mut moves);
-    drop(moves);
+    let done = draft.put_in(alloc, &mut left, commit);
+    drop(draft);
     match done {
         Ok(()) => Ok(left),
         Err(want) => {
@@ -98,58 +179,4 @@ pub(crate) fn record_of(production: Production, late: bool) -> Record
         value,
         late,
     }
-}
-
-// The entry of a handled record.
-pub(crate) fn handle_entry(
-    alloc: Global,
-    seq: u64,
-    name: &RowName,
-    id: RecordId,
-    effects: &Effects,
-) -> Result<Entry, NoMemory>
-    ensures { IfOk result (λ entry. entry ≡ Handle seq name.now id effects.now) }
-{
-    Ok(Entry::Handle {
-        seq,
-        row: name.copy(alloc)?,
-        id,
-        effects: effects.copy(alloc)?,
-    })
-}
-
-// The entry by which an id is settled in a row.
-pub(crate) fn ack_entry(
-    alloc: Global,
-    seq: u64,
-    name: &RowName,
-    id: RecordId,
-) -> Result<Entry, NoMemory>
-    ensures { IfOk result (λ entry. entry ≡ Ack seq name.now id) }
-{
-    Ok(Entry::Ack {
-        seq,
-        row: name.copy(alloc)?,
-        id,
-    })
-}
-
-// The entry of a fired timer.
-pub(crate) fn fire_entry(
-    alloc: Global,
-    seq: u64,
-    name: &RowName,
-    timer: Timer,
-    mark: u64,
-    effects: &Effects,
-) -> Result<Entry, NoMemory>
-    ensures { IfOk result (λ entry. entry ≡ Fire seq name.now timer mark effects.now) }
-{
-    Ok(Entry::Fire {
-        seq,
-        row: name.copy(alloc)?,
-        timer,
-        mark,
-        effects: effects.copy(alloc)?,
-    })
 }

@@ -2,10 +2,12 @@
 ghost use Rattle.std.specs.Prelude.{◌≡◌, OnOk, OnErr, Some};
 ghost use Rattle.std.specs.BTreeMap.{insert_entry};
 ghost use Rattle.mw_types.specs.Orders.{id_cmp};
+ghost use Rattle.run_history.specs.Lent.{lent};
 ghost use Rattle.book.specs.Senders.{sender_of};
 ghost use Rattle.book.specs.Sending.{HasForgotten, HasSent, HasSettled, IsUnsent, KnowsSame, is_sender, settled_by};
 
-use mw_types::{Duplicate, Entry, NoMemory, RecordId, RowName};
+use mw_types::{Duplicate, NoMemory, RecordId, RowName};
+use run_history::EntryRef;
 use std::alloc::Global;
 use std::cmp::Ordering;
 use std::collections::BTreeMap;
@@ -14,11 +16,11 @@ use std::collections::BTreeMap;
 pub(crate) type Senders = BTreeMap<RecordId, RowName>;
 
 /// The id that an entry acknowledges.
-pub fn settled_by(entry: &Entry) -> Option<RecordId>
-    ensures { result ≡ settled_by entry.now }
+pub fn settled_by(entry: &EntryRef<'_>) -> Option<RecordId>
+    ensures { result ≡ settled_by (lent entry.now) }
 {
     match entry {
-        Entry::Ack { id, .. } => Some(*id),
+        EntryRef::Ack { id, .. } => Some(*id),
         _ => None,
     }
 }

@@ -5,14 +5,16 @@ ghost use Rattle.row_parts.specs.Contents.{IsRow};
 ghost use Rattle.row_parts.specs.Spelling.{IsSpelledRow, spelling_of};
 ghost use Rattle.row_keeper.specs.Rows.{IsThere, with_edit, with_row};
 ghost use Rattle.record_codec.specs.Edits.{deliveries_spelling};
+ghost use Rattle.run_history.specs.Lent.{lent};
 ghost use Rattle.book.specs.Appending.{left_row};
 ghost use Rattle.book.specs.Storing.{AreBytesOf, HaveEdited, HaveShorter, grown_by, row_of_pieces};
 
 use crate::settling::{Settled, parted, spell};
-use mw_types::{Delivery, Entry, RowName};
+use mw_types::{Delivery, RowName};
 use record_codec::{bytes_behind, encode_edit};
 use row_keeper::{Keeper, KeeperFault};
 use row_parts::Row;
+use run_history::EntryRef;
 use std::alloc::Global;
 use std::mem::replace;
 
@@ -26,11 +28,11 @@ struct Pieces<'a> {
 }
 
 // How many deliveries an entry puts behind those of its row, where it changes nothing else but the row's head.
-pub(crate) fn grown_by(settled: Option<Settled>, entry: &Entry, sent: u32) -> Option<u32>
-    ensures { result ≡ grown_by settled entry.now sent }
+pub(crate) fn grown_by(settled: Option<Settled>, entry: &EntryRef<'_>, sent: u32) -> Option<u32>
+    ensures { result ≡ grown_by settled (lent entry.now) sent }
 {
     match (settled, entry) {
-        (None, Entry::Inject { .. }) => Some(sent),
+        (None, EntryRef::Inject { .. }) => Some(sent),
         _ => None,
     }
 }

@@ -1,5 +1,5 @@
 //! Writes: each appends one entry and stores its row, or is refused.
-ghost use Rattle.std.specs.Prelude.{◌≡◌, ◌<◌, ◌^◌, ◌↔◌, ℕ, None, [], length, take, IfOk, IfSome, IsErrOf, OnErr, OnOk, Some};
+ghost use Rattle.std.specs.Prelude.{◌≡◌, ◌<◌, ◌^◌, ◌↔◌, ◌⊎◌, ℕ, None, [], length, take, IfErr, IfOk, IfSome, IsErrOf, OnErr, OnOk, Some};
 ghost use Rattle.mw_types.specs.Causes.{HasCause};
 ghost use Rattle.mw_types.specs.declared.entry.Entry.TheVariants.{Ack, Purge};
 ghost use Rattle.run_history.specs.Runs.{run_of, written_row};
@@ -11,14 +11,13 @@ ghost use Rattle.book.specs.Lawful.{IsLawful};
 ghost use Rattle.book.specs.Proposals.{IsProposable, IsProposedOf, IsWrittenBy};
 ghost use Rattle.book.specs.Writings.{IsPut, MayPutAt};
 ghost use Rattle.book.specs.Appending.{later_than};
+ghost use Rattle.book.specs.Drafts.{IsAdmitted};
 
 use crate::answers::Written;
 use crate::books::Book;
-use crate::changes::{change_of, purging};
 use crate::lease::Lease;
 use crate::proposal::Proposal;
 use crate::refusals::WriteRefusal;
-use crate::settling::Settled;
 use crate::writing::Writing;
 use mw_types::{Duplicate, RecordId, RowName};
 use row_keeper::Keeper;
@@ -151,13 +150,11 @@ impl<'a, K: Keeper> Book<'a, K> {
         ensures unchanged { OnErr result (HasStayed self.old self.new) }
         ensures same { IsSameBook self.old self.new }
     {
-        match writing {
-            Writing::Propose { proposal } => {
-                self.write_in(alloc, lease, front, name, row, proposal)
-            }
-            Writing::Settle { id } => self.settle_in(alloc, lease, front, name, row, id),
-            Writing::Purge { floor } => self.purge_in(alloc, lease, front, name, row, floor),
-        }
+        let commit = match self.admit(lease) {
+            Ok(commit) => commit,
+            Err(why) => return Err(why),
+        };
+        self.put_admitted(alloc, lease, front, name, row, writing, commit)
     }
 
     /// Does what `put` does on a copy of a row, which it answers.
@@ -199,8 +196,46 @@ impl<'a, K: Keeper> Book<'a, K> {
         }
     }
 
-    // Does what `write` does on a row that is changed where it lies. Answers the commit number.
-    fn write_in(
+    // Does what `put` does once the sequencer is tested, by the kind of what is written.
+    fn put_admitted(
+        &mut self,
+        alloc: Global,
+        lease: &Lease,
+        front: u64,
+        name: &RowName,
+        row: &mut Row,
+        writing: Writing<'_>,
+        commit: u64,
+    ) -> Result<u64, WriteRefusal>
+        requires admitted { IsAdmitted self.old lease.now commit }
+        requires lease { MayUseAt self.old lease.now front name.now }
+        requires row { IsRowSeenAt self.old lease.now front name.now row.old }
+        requires may { MayPutAt self.old front name.now row.old writing }
+
+        ensures put { let old = self.old in IfOk result (λ commit.
+            IsPut old.case old.rows old.history self.new.history
+            lease.now name.now writing.entry row.old (answer_of commit row.new)) }
+        ensures row { OnErr result (row.new ≡ row.old) }
+        ensures refused { IfErr result (λ why.
+            (why ≡ WriteRefusal.NoMemory) ⊎ (why ≡ WriteRefusal.KeeperFault)) }
+        ensures keeper_fault { HasCause self.old.faults self.new.faults result
+            WriteRefusal.KeeperFault }
+        ensures unchanged { OnErr result (HasStayed self.old self.new) }
+        ensures same { IsSameBook self.old self.new }
+    {
+        match writing {
+            Writing::Propose { proposal } => {
+                self.propose_row(alloc, lease, front, name, row, proposal, commit)
+            }
+            Writing::Settle { id } => self.settle_row(alloc, lease, front, name, row, id, commit),
+            Writing::Purge { floor } => {
+                self.purge_row(alloc, lease, front, name, row, floor, commit)
+            }
+        }
+    }
+
+    // Writes what is proposed once the sequencer is tested, by its kind.
+    fn propose_row(
         &mut self,
         alloc: Global,
         lease: &Lease,
@@ -208,7 +243,9 @@ impl<'a, K: Keeper> Book<'a, K> {
         name: &RowName,
         row: &mut Row,
         proposal: &Proposal,
+        commit: u64,
     ) -> Result<u64, WriteRefusal>
+        requires admitted { IsAdmitted self.old lease.now commit }
         requires lease { MayUseAt self.old lease.now front name.now }
         requires row { IsRowSeenAt self.old lease.now front name.now row.old }
         requires proposal { IsProposable self.old.case name.now row.old proposal.now }
@@ -219,100 +256,27 @@ impl<'a, K: Keeper> Book<'a, K> {
             IsWrittenBy old.case old.rows old.history self.new.history
             lease.now name.now proposal.now row.old (answer_of commit row.new)) }
         ensures row { OnErr result (row.new ≡ row.old) }
-        ensures found { let old = self.old in
-            OnOk result (IsRowOf old.case old.rows old.history name.now row.old) }
-        ensures stale { IsStaleWhere self.old.history lease.now result }
-        ensures full { IsFullWhere self.old.limit self.old.history lease.now result }
+        ensures refused { IfErr result (λ why.
+            (why ≡ WriteRefusal.NoMemory) ⊎ (why ≡ WriteRefusal.KeeperFault)) }
         ensures keeper_fault { HasCause self.old.faults self.new.faults result
             WriteRefusal.KeeperFault }
         ensures unchanged { OnErr result (HasStayed self.old self.new) }
         ensures same { IsSameBook self.old self.new }
     {
-        let commit = match self.admit(lease) {
-            Ok(commit) => commit,
-            Err(why) => return Err(why),
-        };
-        let case = self.case();
-        match change_of(alloc, case, lease.seq(), name, row, proposal, commit) {
-            Ok(made) => self.change_row(alloc, name, row, made),
-            Err(want) => Err(want.into()),
-        }
-    }
-
-    // Does what `settle` does on a row that is changed where it lies. Answers the commit number.
-    fn settle_in(
-        &mut self,
-        alloc: Global,
-        lease: &Lease,
-        front: u64,
-        name: &RowName,
-        row: &mut Row,
-        id: RecordId,
-    ) -> Result<u64, WriteRefusal>
-        requires lease { MayUseAt self.old lease.now front name.now }
-        requires row { IsRowSeenAt self.old lease.now front name.now row.old }
-        requires id { MaySettleAt self.old front row.old id }
-
-        ensures written { let entry = Ack lease.now.seq name.now id in
-            let left = written_row (length self.old.history) entry [] row.old in
-            let old = self.old in IfOk result (λ commit.
-            IsWritten old.case old.rows old.history self.new.history
-            lease.now name.now entry left (answer_of commit row.new)) }
-        ensures row { OnErr result (row.new ≡ row.old) }
-        ensures found { let old = self.old in
-            OnOk result (IsRowOf old.case old.rows old.history name.now row.old) }
-        ensures stale { IsStaleWhere self.old.history lease.now result }
-        ensures full { IsFullWhere self.old.limit self.old.history lease.now result }
-        ensures keeper_fault { HasCause self.old.faults self.new.faults result
-            WriteRefusal.KeeperFault }
-        ensures unchanged { OnErr result (HasStayed self.old self.new) }
-        ensures same { IsSameBook self.old self.new }
-    {
-        // That the id can be printed is known of what is pending in a row.
-        row.sound();
-        let commit = match self.admit(lease) {
-            Ok(commit) => commit,
-            Err(why) => return Err(why),
-        };
-        self.settle_row(alloc, lease, name, row, Settled { id, commit })
-    }
-
-    // Does what `purge` does on a row that is changed where it lies. Answers the commit number.
-    fn purge_in(
-        &mut self,
-        alloc: Global,
-        lease: &Lease,
-        front: u64,
-        name: &RowName,
-        row: &mut Row,
-        floor: u64,
-    ) -> Result<u64, WriteRefusal>
-        requires lease { MayUseAt self.old lease.now front name.now }
-        requires row { IsRowSeenAt self.old lease.now front name.now row.old }
-        requires floor { MayForgetAt self.old front name.now row.old floor }
-
-        ensures written { let entry = Purge lease.now.seq name.now floor in
-            let left = written_row (length self.old.history) entry [] row.old in
-            let old = self.old in IfOk result (λ commit.
-            IsWritten old.case old.rows old.history self.new.history
-            lease.now name.now entry left (answer_of commit row.new)) }
-        ensures row { OnErr result (row.new ≡ row.old) }
-        ensures found { let old = self.old in
-            OnOk result (IsRowOf old.case old.rows old.history name.now row.old) }
-        ensures stale { IsStaleWhere self.old.history lease.now result }
-        ensures full { IsFullWhere self.old.limit self.old.history lease.now result }
-        ensures keeper_fault { HasCause self.old.faults self.new.faults result
-            WriteRefusal.KeeperFault }
-        ensures unchanged { OnErr result (HasStayed self.old self.new) }
-        ensures same { IsSameBook self.old self.new }
-    {
-        let commit = match self.admit(lease) {
-            Ok(commit) => commit,
-            Err(why) => return Err(why),
-        };
-        match purging(alloc, lease, name, row, floor, commit) {
-            Ok(made) => self.change_row(alloc, name, row, made),
-            Err(want) => Err(want.into()),
+        match proposal {
+            Proposal::Inject { line } => {
+                self.inject_row(alloc, lease, front, name, row, *line, commit)
+            }
+            Proposal::Handle { delivery, effects } => {
+                self.handle_row(alloc, lease, front, name, row, delivery, effects, commit)
+            }
+            Proposal::Fire {
+                timer,
+                mark,
+                effects,
+            } => self.fire_row(
+                alloc, lease, front, name, row, *timer, *mark, effects, commit,
+            ),
         }
     }
 

@@ -43,7 +43,8 @@ impl Holdings {
         // The place comes first: once the desk has answered, no memory may be wanted.
         self.make_room(interval)?;
         desk.sound();
-        let _bounds = case.intervals().bounds(interval);
+        let _count = case.interval_count();
+        let _bounds = case.bounds(interval);
         let claimed = desk.claim(alloc, worker, interval);
         desk.sound();
         let Claimed { lease, rows } = claimed?;

@@ -81,7 +81,7 @@ impl Holdings {
         ensures same { self.new ≡ self.old }
     {
         desk.sound();
-        let part = case.intervals().bounds(interval).part;
+        let part = case.bounds(interval).part;
         self.oldest(alloc, case, interval, part)
     }
 

@@ -1,20 +1,18 @@
--- The last interval that begins by a row of one of the parts is the one interval that has it.
-use Rattle.std.proofs.Common.{◌≡◌, ◌<◌, ◌≤◌, ◌+◌, ◌-◌, ◌∙◌, ◌⊎◌, inl, inr, ℕ, List, [], ◌∷◌, Bool, true, false, Option, Some, None, length, get_or, arith, refl, sym, ap, subst, zero, suc, true≢false, ◌==◌, ◌&&◌}
-use Rattle.std.specs.Prelude.{MatchOption, IfSome, slice_get, Any}
-use Rattle.std.proofs.lemmas.Option.{slice_get-get_or, slice_get_within, get_or_from_slice_get}
+-- Of intervals that meet one at most has a row.
+use Rattle.std.proofs.Common.{◌≡◌, ◌<◌, ◌≤◌, ◌+◌, ◌∙◌, ◌⊎◌, inl, inr, ℕ, List, [], ◌∷◌, Bool, true, false, Option, Some, None, length, get_or, arith, refl, sym, ap, subst, zero, suc, true≢false, ◌==◌, ◌&&◌}
+use Rattle.std.specs.Prelude.{MatchOption, IfSome, slice_get}
+use Rattle.std.proofs.lemmas.Option.{slice_get_within, get_or_from_slice_get}
 use Rattle.std.proofs.lemmas.Bool.Decides.{nat_tests}
 use Rattle.std.proofs.lemmas.Bool.{cases_lt, both_ways}
-use Rattle.std.proofs.Math.Nat.{eq-or-lt_of_le}
 use Rattle.std.specs.declared.cmp.Ordering.{Ordering}
 use Rattle.std.specs.declared.cmp.Ordering.TheVariants.{Less}
-use Rattle.std.specs.Ordering.{is_le, is_lt, nat_cmp, ordering_then}
-use Rattle.std.specs.List.Sorted.{IsPartitionPoint}
-use Rattle.mw_types.specs.Orders.{key_cmp, row_cmp}
+use Rattle.std.specs.Ordering.{is_le, nat_cmp, ordering_then}
+use Rattle.mw_types.specs.Orders.{key_cmp}
 use Rattle.mw_types.specs.declared.identity.RowName.{RowName}
 use Rattle.mw_types.proofs.OrderLaws.{key_cmp-total}
 use Rattle.key_intervals.specs.declared.bounds.Bounds.{Bounds}
-use Rattle.key_intervals.specs.Intervals.{start_of, Meets, AreIntervals, HasRow, covers, ends_after}
-use Rattle.key_intervals.proofs.Beginnings.{begins_by, begin_in_two, part_below, parts_rise, key_decides, after_part, empty_first, above, turned_below}
+use Rattle.key_intervals.specs.Intervals.{Meets, AreIntervals, HasRow, covers, ends_after}
+use Rattle.key_intervals.proofs.Beginnings.{begins_by, begin_in_two, key_decides, after_part, turned_below}
 
 -- the first interval begins with the empty key
 first_from : (all : List Bounds) (d : Bounds) → IfSome (slice_get all 0) (λ (b : Bounds). b.from ≡ []) → 0 < length all
@@ -61,13 +59,23 @@ has_row b name part from to = by_parts _ _ _ _ part from to
     by_parts : (m n : ℕ) (l e : Bool) → m ≡ n → l ≡ true → e ≡ true → ((m == n) && l && e) ≡ true
     by_parts m n l e p q r = grind (arith, nat_tests)
 
--- an interval that has a row is of its part, and goes on past it
+-- an interval that has a row is of its part
 pub of_part : (b : Bounds) (name : RowName) → covers b name ≡ true → b.part ≡ name.part
 of_part b name h = first b.part name.part (is_le (key_cmp b.from name.key)) (ends_after b.to name.key) h
   where
     first : (m n : ℕ) (l e : Bool) → ((m == n) && l && e) ≡ true → m ≡ n
     first m n l e h = grind (arith, nat_tests)
 
+-- begins by its key
+pub begins_upto : (b : Bounds) (name : RowName) → covers b name ≡ true → is_le (key_cmp b.from name.key) ≡ true
+begins_upto b name h = second (b.part == name.part) (is_le (key_cmp b.from name.key)) (ends_after b.to name.key) h
+  where
+    second : (t l e : Bool) → (t && l && e) ≡ true → l ≡ true
+    second true true e h = refl
+    second true false e h = absurd (true≢false (sym h))
+    second false l e h = absurd (true≢false (sym h))
+
+-- and goes on past it
 pub goes_past : (b : Bounds) (name : RowName) → covers b name ≡ true → ends_after b.to name.key ≡ true
 goes_past b name h = third (b.part == name.part) (is_le (key_cmp b.from name.key)) (ends_after b.to name.key) h
   where
@@ -75,19 +83,6 @@ goes_past b name h = third (b.part == name.part) (is_le (key_cmp b.from name.key
     third true true e h = h
     third true false e h = absurd (true≢false (sym h))
     third false l e h = absurd (true≢false (sym h))
-
--- an interval goes on past a row of its part by which the next one does not begin
-before_next : (b next : Bounds) (name : RowName) → Meets b next → b.part ≡ name.part → begins_by name next ≡ false
-    → ends_after b.to name.key ≡ true
-before_next b next name = by_end b.to
-  where
-    by_end : (to : Option (List ℕ)) → MatchOption to ((next.part ≡ b.part + 1) × (next.from ≡ []))
-        (λ end. (next.part ≡ b.part) × (next.from ≡ end) × (key_cmp b.from end ≡ Less))
-        → b.part ≡ name.part → begins_by name next ≡ false → ends_after to name.key ≡ true
-    by_end None m p h = refl
-    by_end (Some end) m p h =
-        let at : key_cmp next.from name.key ≡ row_cmp (start_of next) name = sym (key_decides next.part name.part _ (m.0 ∙ p)) in
-        ap is_lt (ap (λ k. key_cmp name.key k) (sym m.1) ∙ above next.from name.key (ap is_le at ∙ h))
 
 -- where an interval has a row, the next one begins after it
 begins_after : (b next : Bounds) (name : RowName) → Meets b next → covers b name ≡ true → begins_by name next ≡ false
@@ -125,72 +120,3 @@ one_interval all i j name are one other = elim (cases_lt i j) [
     | inr ge ↦ omega (arith, le, ge)
   ]
 ]
-
--- a search among the intervals ends at n: the n before it begin by the row, and the others after it
-module _ (all : List Bounds) (name : RowName) (n : ℕ) (d : Bounds) (a : AreIntervals all)
-    (begun : (k : ℕ) → k < n → begins_by name (get_or all k d) ≡ true)
-    (later : (k : ℕ) → n ≤ k → k < length all → begins_by name (get_or all k d) ≡ false) where
-  begun_before : (k : ℕ) → k < length all → begins_by name (get_or all k d) ≡ true → k < n
-  begun_before k l h = elim (cases_lt k n) [ inl lt ↦ lt | inr ge ↦ absurd (true≢false (sym h ∙ later k ge l)) ]
-
-  -- one of the n begins the row's part
-  part_begun : (at : ℕ) → at < length all → (get_or all at d).part ≡ name.part → (i : ℕ) × (i < n) × ((get_or all i d).part ≡ name.part)
-  part_begun at inside of =
-      let p = first_of_part all d a at inside in
-      let short : p.0 < length all = omega (arith, p.1) in
-      let begins : begins_by name (get_or all p.0 d) ≡ true =
-      ap is_le (key_decides _ _ _ (p.2 ∙ of)) ∙ subst (λ k. is_le (key_cmp k name.key) ≡ true) (sym p.3) (empty_first name.key) in
-      (p.0, begun_before p.0 short begins, p.2 ∙ of)
-
-  -- the last of the n goes on past the row
-  last_goes_past : n ≤ length all → 0 < n → (get_or all (n - 1) d).part ≡ name.part → ends_after (get_or all (n - 1) d).to name.key ≡ true
-  last_goes_past le some of = elim (eq-or-lt_of_le le) [
-    | inr lt ↦ before_next (get_or all (n - 1) d) (get_or all (n - 1 + 1) d) name (a.next (n - 1) d (omega arith)) of
-        (later (n - 1 + 1) (omega arith) (omega arith))
-    | inl e ↦ ap (λ to. ends_after to name.key) (a.last (n - 1) d (omega arith))
-  ]
-
-  -- the last of the n has the row
-  last_has : n ≤ length all → (i : ℕ) × (i < n) × ((get_or all i d).part ≡ name.part) → covers (get_or all (n - 1) d) name ≡ true
-  last_has le p =
-      let some : 0 < n = omega (arith, p.1) in
-      let begins : begins_by name (get_or all (n - 1) d) ≡ true = begun (n - 1) (omega arith) in
-      let rises : (get_or all p.0 d).part ≤ (get_or all (n - 1) d).part = parts_rise all d a.next p.0 (n - 1) (omega (arith, p.1))
-      (omega arith) in
-      let most : (get_or all (n - 1) d).part ≤ name.part = part_below _ _ _ begins in
-      let of : (get_or all (n - 1) d).part ≡ name.part = omega (arith, p.2) in
-      has_row _ name of (sym (ap is_le (key_decides _ _ _ of)) ∙ begins) (last_goes_past le some of)
-
-  -- no other interval has it
-  only_last : n ≤ length all → (other : ℕ) → HasRow all other name → other ≡ n - 1
-  only_last le other h =
-      let short : other < length all = slice_get_within all other h.0 h.1 in
-      let has : covers (get_or all other d) name ≡ true = subst (λ b. covers b name ≡ true)
-      (sym (get_or_from_slice_get all other h.0 d h.1)) h.2 in
-      let lt : other < n = begun_before other short (begins_by_row (get_or all other d) name has) in
-      elim (cases_lt (other + 1) n) [
-        | inr le ↦ omega arith
-        | inl below ↦ absurd
-            (true≢false (sym (begun (other + 1) below)
-            ∙ begins_after (get_or all other d) (get_or all (other + 1) d) name (a.next other d (omega arith)) has))
-      ]
-
--- the interval of this number has the row, and no other does
-pub record IsFound (all : List Bounds) (name : RowName) (number : ℕ) : Type 0 where
-  pub found : HasRow all number name
-  pub only : (other : ℕ) → HasRow all other name → other ≡ number
-
--- where a search by beginnings ends, the interval before that place has the row
-pub found_at_end : (all : List Bounds) (name : RowName) (n : ℕ) → AreIntervals all → n ≤ length all
-    → IsPartitionPoint (λ b. begins_by name b ≡ true) (λ b. begins_by name b ≡ false) all n
-    → Any (λ (b : Bounds). b.part ≡ name.part) all → IsFound all name (n - 1)
-found_at_end all name n a le point part =
-    let d = part.1 in
-    let begun : (k : ℕ) → k < n → begins_by name (get_or all k d) ≡ true = λ k h. point.0 k d (omega arith) h in
-    let later : (k : ℕ) → n ≤ k → k < length all → begins_by name (get_or all k d) ≡ false = λ k h l. point.1 k d h l in
-    let p = part_begun all name n d a begun later part.0 part.2 (ap (λ (b : Bounds). b.part) part.3 ∙ part.4) in
-    let short : n - 1 < length all = omega (arith, p.1) in
-    record {
-      found = (get_or all (n - 1) d, slice_get-get_or all (n - 1) d short, last_has all name n d a begun later le p);
-      only = only_last all name n d a begun later le;
-    }

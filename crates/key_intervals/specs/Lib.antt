@@ -1,2 +1,4 @@
 pub mod Intervals
-pub mod Firsts
+pub mod Division
+pub mod Refusing
+pub mod Index

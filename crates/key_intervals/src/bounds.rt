@@ -1,10 +1,10 @@
 //! One interval of the keys of one part, and the test whether it has a row.
-ghost use Rattle.std.specs.Prelude.{◌≡◌};
-ghost use Rattle.std.specs.Ordering.{is_le};
-ghost use Rattle.mw_types.specs.Orders.{key_cmp, row_cmp};
-ghost use Rattle.key_intervals.specs.Intervals.{covers, ends_after, start_of};
+ghost use Rattle.std.specs.Prelude.{◌≡◌, IfOk};
+ghost use Rattle.key_intervals.specs.Intervals.{covers, ends_after};
+ghost use Rattle.key_intervals.specs.Division.{overlaps};
 
-use mw_types::{Key, RowName};
+use mw_types::{Duplicate, Key, NoMemory, RowName};
+use std::alloc::Global;
 
 /// The keys of one part from one key on, and below another where there is one.
 #[derive(Drop, PartialEq, Eq)]
@@ -27,26 +27,40 @@ impl Bounds {
             && ends_after(&self.to, &name.key)
     }
 
-    // Whether the interval begins at this row or before it, in the order of rows.
-    pub(crate) fn begins_by(&self, name: &RowName) -> bool
-        ensures { result ≡ is_le (row_cmp (start_of self.now) name.now) }
+    /// Whether a row may be in both intervals: one is, where each has some key.
+    pub fn overlaps(&self, other: &Bounds) -> bool
+        ensures { result ≡ overlaps self.now other.now }
     {
-        if self.part != name.part {
-            return self.part < name.part;
-        }
-        begins_by(&self.from, &name.key)
+        self.part == other.part
+            && ends_after(&self.to, &other.from)
+            && ends_after(&other.to, &self.from)
     }
 }
 
-// Whether an interval that begins at `from` begins by the key. The empty key is the least of all.
-fn begins_by(from: &Key, key: &Key) -> bool
-    ensures { result ≡ is_le (key_cmp from.now key.now) }
+impl Duplicate for Bounds {
+    fn copy(&self, alloc: Global) -> Result<Bounds, NoMemory> {
+        let from = self.from.copy(alloc)?;
+        let to = copied_end(alloc, &self.to)?;
+        Ok(Bounds {
+            part: self.part,
+            from,
+            to,
+        })
+    }
+}
+
+// The same end once more.
+pub(crate) fn copied_end(alloc: Global, to: &Option<Key>) -> Result<Option<Key>, NoMemory>
+    ensures { IfOk result (λ end. end ≡ to.now) }
 {
-    from.text().is_empty() || from.cmp(key).is_le()
+    match to {
+        Some(end) => Ok(Some(end.copy(alloc)?)),
+        None => Ok(None),
+    }
 }
 
 // Whether an interval that ends there goes on after the key.
-fn ends_after(to: &Option<Key>, key: &Key) -> bool
+pub(crate) fn ends_after(to: &Option<Key>, key: &Key) -> bool
     ensures { result ≡ ends_after to.now key.now }
 {
     match to {

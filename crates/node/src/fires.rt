@@ -200,10 +200,9 @@ fn first_of_part(
         IfOk result (IsLeastTimerBelow intervals held.old part (length intervals)) }
     ensures same { held.new ≡ held.old }
 {
-    let intervals = case.intervals();
     let mut first = None;
-    for interval in 0..intervals.count() {
-        let counts = intervals.bounds(interval).part == part;
+    for interval in 0..case.interval_count() {
+        let counts = case.bounds(interval).part == part;
         let here = first_in(held, alloc, interval, counts)?;
         first = earlier(first, here);
     }

@@ -20,10 +20,9 @@ pub(crate) fn least_known<D: Desk>(desk: &mut D, case: &Case, part: u32) -> u64
     ensures home { D.home desk.new ≡ D.home desk.old }
 {
     desk.sound();
-    let intervals = case.intervals();
     let mut least = END;
-    for interval in 0..intervals.count() {
-        let counts = intervals.bounds(interval).part == part;
+    for interval in 0..case.interval_count() {
+        let counts = case.bounds(interval).part == part;
         least = lesser(desk, interval, counts, least);
     }
     desk.sound();

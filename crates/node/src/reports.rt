@@ -53,7 +53,7 @@ impl<N: Seen> Node<N> {
         if self.held.get(interval).is_none() {
             return Ok(Outcome::Nothing);
         }
-        let _there = case.intervals();
+        let _count = case.interval_count();
         let reported = report_work(&mut self.held, alloc, desk, case, interval);
         desk.sound();
         match reported {

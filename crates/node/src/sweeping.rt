@@ -117,8 +117,7 @@ fn found_in(alloc: Global, case: &Case, held: &Holdings) -> Result<Vec<Sent>, No
         IfOk result (λ found. AreFoundBelow held.now count found.items) }
 {
     let mut found = Vec::new(alloc);
-    let intervals = case.intervals();
-    for interval in 0..intervals.count() {
+    for interval in 0..case.interval_count() {
         push_pending(alloc, held, interval, &mut found)?;
     }
     Ok(found)

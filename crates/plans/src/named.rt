@@ -12,7 +12,7 @@ pub(crate) fn interval_in(case: &Case, word: &[u8]) -> Option<u32>
     ensures number { result ≡ interval_in case.now.topology word.now }
     ensures range { IfSome result (λ n. n < interval_count case.now.topology) }
 {
-    below(u64::from(case.intervals().count()), word)
+    below(u64::from(case.interval_count()), word)
 }
 
 // Whether a word is this one.

@@ -21,7 +21,7 @@ mod states;
 mod timers;
 mod words;
 
-pub use changes::{Moves, Parts};
+pub use changes::Own;
 pub use ids::forget_below;
 pub use lists::{InFours, Ranked, put_in_fours, put_list, take_ascending, take_list};
 pub use refusal::StateRefusal;

@@ -1,16 +1,20 @@
 -- The interval in which a row lies is the one that has it.
 use Rattle.std.proofs.Common.{◌≡◌, ℕ, ◌+◌, ◌<◌, Bool, true, false, cond, List, [], ◌∷◌, length, refl, sym, ◌∙◌, ap, subst, arith, suc, zero, Any}
-use Rattle.std.specs.Prelude.{Some, slice_get}
+use Rattle.std.specs.Prelude.{None, Option, Some, slice_get}
+use Rattle.std.specs.Option.{option_map}
 use Rattle.std.specs.List.{position_from, range_with_len}
 use Rattle.std.proofs.lemmas.List.{length-map}
 use Rattle.std.proofs.lemmas.List.FromFn.{length-range_with_len}
+use Rattle.std.proofs.lemmas.Option.{slice_get-map}
 use Rattle.mw_types.specs.declared.identity.RowName.{RowName}
 use Rattle.key_intervals.specs.declared.bounds.Bounds.{Bounds}
+use Rattle.key_intervals.specs.declared.given.Given.{Given}
 use Rattle.key_intervals.specs.Intervals.{covers, HasRow, AreIntervals}
+use Rattle.key_intervals.specs.Division.{bounds_at, fresh}
 use Rattle.topology.specs.Shapes.{Shape, parts_of, cuts_of}
 use Rattle.topology.specs.Rules.{IsTopology, part_cuts_of}
 use Rattle.run_history.specs.Fences.{interval_of}
-use Rattle.run_history.specs.Cases.{intervals_of}
+use Rattle.run_history.specs.Cases.{first_division, intervals_of}
 use Rattle.list_lemmas.proofs.Lists.{some_same, none_some}
 use Rattle.run_history.proofs.CaseIntervals.{part_cuts_of-numbered, part_cuts_of-cuts, intervals-few}
 use Rattle.key_intervals.proofs.Made as made
@@ -54,6 +58,20 @@ has-interval_of shape i name are has =
     let some = position_from-some (λ (b : Bounds). covers b name) 0 (intervals_of shape) i has.0 has.1 has.2 in
     some.1 ∙ ap Some (one_interval (intervals_of shape) some.0 i name are (interval_of-has shape some.0 name some.1) has)
 
+-- the bounds of an interval that has just got its number are its own
+fresh-bounds : (found : Option Bounds) → option_map (λ (g : Given). g.bounds) (option_map fresh found) ≡ found
+fresh-bounds None = refl
+fresh-bounds (Some b) = refl
+
+-- of the first division a number has the bounds of the interval of that number
+pub bounds-first : (shape : Shape) (i : ℕ) → bounds_at (first_division shape).given i ≡ slice_get (intervals_of shape) i
+bounds-first shape i =
+    ap (option_map (λ (g : Given). g.bounds)) (slice_get-map fresh (intervals_of shape) i) ∙ fresh-bounds (slice_get (intervals_of shape) i)
+
+-- of the first division as many numbers were given as there are intervals
+pub count-first : (shape : Shape) → length (first_division shape).given ≡ length (intervals_of shape)
+count-first shape = length-map (intervals_of shape) fresh
+
 -- the intervals of a topology are intervals
 pub are-intervals : (shape : Shape) → IsTopology shape → AreIntervals (intervals_of shape)
 are-intervals shape rules =
@@ -61,7 +79,7 @@ are-intervals shape rules =
     (intervals-few shape (part_cuts_of shape) rules refl)
 
 -- how many parts have cuts that are told
-length-part_cuts_of : (shape : Shape) → length (part_cuts_of shape) ≡ parts_of shape
+pub length-part_cuts_of : (shape : Shape) → length (part_cuts_of shape) ≡ parts_of shape
 length-part_cuts_of shape =
     length-map (range_with_len 0 (parts_of shape)) (λ (part : ℕ). record { part = part; cuts = cuts_of shape part })
     ∙ length-range_with_len 0 (parts_of shape)

@@ -1,5 +1,5 @@
 -- The lines of the entries so far, with those of the entries that are left, are all lines.
-use Rattle.std.proofs.Common.{◌≡◌, ℕ, ◌+◌, List, ◌++◌, drop}
+use Rattle.std.proofs.Common.{◌≡◌, ℕ, List, ◌++◌, drop}
 use Rattle.mw_types.specs.declared.entry.Entry.{Entry}
 use Rattle.run_history.specs.HistoryLines.{lines_from, lines_of_history}
 

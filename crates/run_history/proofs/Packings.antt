@@ -1,6 +1,7 @@
 -- Details that are kept, and what their entries are then.
 use Rattle.std.proofs.Common.{◌≡◌, ◌-◌, ◌<◌, ◌≤◌, List, [], ◌∷◌, ◌++◌, length, get_or, take, map, All, refl, sym, ◌∙◌, ap, subst, arith, length-append}
 use Rattle.std.specs.List.{AllByRecursion}
+use Rattle.std.specs.Prelude.{Result, Ok, Err, OnErr, OnOk}
 use Rattle.std.proofs.lemmas.Grind.{common_steps}
 use Rattle.std.proofs.lemmas.List.{get_or_append_left, get_or_push, map-append}
 use Rattle.std.proofs.lemmas.List.Elements.{All-append, All-from_recursion, recursion_from_All}
@@ -12,7 +13,7 @@ use Rattle.run_history.specs.declared.details.Handled.{Handled}
 use Rattle.run_history.specs.declared.packed.Packed.{Packed}
 use Rattle.run_history.specs.declared.packed.Packed.TheVariants.{Claim, Inject, Handle, Fire, Ack, Purge, Whole}
 use Rattle.run_history.specs.Naming.{Keeps, name_at, no_name}
-use Rattle.run_history.specs.Packing.{ArePacked, AreNumbered, Counts, HasDetail, HasName, IsLast, IsNext, IsPacked, KeepsDetails, counts_of, no_entry, no_fired, no_handled, no_item, none_yet, unpacked, with_entry}
+use Rattle.run_history.specs.Packing.{ArePacked, AreNumbered, Counts, HasDetail, HasName, IsLast, IsNext, IsPacked, IsWithout, KeepsDetails, counts_of, no_entry, no_fired, no_handled, no_item, none_yet, unpacked, with_entry}
 
 -- ---- kept details
 
@@ -256,3 +257,43 @@ pub put_back : (old mid new : Details) (p : Packed) → KeepsDetails old mid →
 put_back old mid new p one two names before after =
     let same : counts_of old ≡ counts_of new = same_before p (counts_of old) (counts_of new) (sym before ∙ after) in
     (details_beside old new mid (subst (Keeps old.names) (sym names) one.names) one two same, sym same)
+
+-- ---- an entry that is appended, or whose details are taken away
+
+-- the entries are packed then
+pub packed_appended : {T E : Type 0} (result : Result T E) (old mid new : Details) (ps qs : List Packed) (p : Packed)
+    → KeepsDetails old mid → IsPacked mid p → IsNext (counts_of old) p × (counts_of mid ≡ with_entry p (counts_of old))
+    → ArePacked old ps → OnOk result ((new ≡ mid) × (qs ≡ ps ++ p ∷ []))
+    → OnErr result (IsWithout p mid new × (qs ≡ ps)) → ArePacked new qs
+packed_appended (Ok x) old mid new ps qs p keeps is next are ok err =
+    subst (λ d. ArePacked d qs) (sym ok.0) (subst (ArePacked mid) (sym ok.1)
+    (packed_more old mid ps p keeps is next.0 next.1 are))
+packed_appended (Err why) old mid new ps qs p keeps is next are ok err =
+    let back = put_back old mid new p keeps err.0.kept err.0.names next.1 err.0.counted in
+    subst (ArePacked new) (sym err.1) (record {
+      each = each_kept old new ps back.0 are.each;
+      numbered = subst (AreNumbered none_yet ps) (sym back.1) are.numbered;
+    })
+
+-- it is one entry more
+pub unpacked_appended : {T E : Type 0} (result : Result T E) (old mid new : Details) (ps qs : List Packed) (p : Packed)
+    (entry : Entry) (held : List Entry) → KeepsDetails old mid → unpacked mid p ≡ entry → ArePacked old ps
+    → map (unpacked old) ps ≡ held → OnOk result ((new ≡ mid) × (qs ≡ ps ++ p ∷ []))
+    → OnOk result (map (unpacked new) qs ≡ held ++ entry ∷ [])
+unpacked_appended (Ok x) old mid new ps qs p entry held keeps is are was ok =
+    ap (λ d. map (unpacked d) qs) ok.0
+    ∙ ap (map (unpacked mid)) ok.1
+    ∙ unpacked_more old mid ps p entry keeps is are
+    ∙ ap (λ l. l ++ entry ∷ []) was
+unpacked_appended (Err why) old mid new ps qs p entry held keeps is are was ok = tt
+
+-- or they are the same entries
+pub unpacked_taken_back : {T E : Type 0} (result : Result T E) (old mid new : Details) (ps qs : List Packed) (p : Packed)
+    (held : List Entry) → KeepsDetails old mid → counts_of mid ≡ with_entry p (counts_of old) → ArePacked old ps
+    → map (unpacked old) ps ≡ held → OnErr result (IsWithout p mid new × (qs ≡ ps))
+    → OnErr result (map (unpacked new) qs ≡ held)
+unpacked_taken_back (Ok x) old mid new ps qs p held keeps counts are was err = tt
+unpacked_taken_back (Err why) old mid new ps qs p held keeps counts are was err =
+    ap (map (unpacked new)) err.1
+    ∙ map_kept old new ps (put_back old mid new p keeps err.0.kept err.0.names counts err.0.counted).0 are.each
+    ∙ was

@@ -153,3 +153,9 @@ unpacked d (Ack seq row commit index) =
     entries.Ack seq (name_at d.names row) (record { commit = commit; index = index })
 unpacked d (Purge seq row floor) = entries.Purge seq (name_at d.names row) floor
 unpacked d (Whole whole) = slice_index_or d.wholes whole no_entry
+
+-- details from which those of their last entry were taken
+pub record IsWithout (p : Packed) (old new : Details) : Type 0 where
+  pub kept : KeepsDetails new old
+  pub names : new.names ≡ old.names
+  pub counted : counts_of old ≡ with_entry p (counts_of new)

@@ -1,15 +1,15 @@
 //! What a run is of.
-ghost use Rattle.std.specs.Prelude.{◌≡◌, ◌<◌, ◌≤◌, ◌^◌, [], length, IfOk, Some};
+ghost use Rattle.std.specs.Prelude.{◌≡◌, ◌<◌, ◌≤◌, ◌^◌, [], length, slice_get, IfOk, Some};
 ghost use Rattle.std.specs.Option.{option_map};
 ghost use Rattle.mw_types.specs.declared.TheConstants.{MAX_STAMP};
 ghost use Rattle.injector.specs.Sources.{item_at};
 ghost use Rattle.topology.specs.Shapes.{injectors_of, parts_of};
 ghost use Rattle.topology.specs.Rules.{interval_count};
-ghost use Rattle.run_history.specs.Cases.{intervals_of, source_of, record_of};
+ghost use Rattle.run_history.specs.Cases.{first_division, intervals_of, source_of, record_of};
 ghost use Rattle.run_history.specs.Fences.{interval_of};
 
 use injector::ItemsList;
-use key_intervals::Intervals;
+use key_intervals::{Bounds, Intervals};
 use mw_types::{Duplicate, Key, NoMemory, Record, RowName};
 use std::alloc::Global;
 use std::marker::Model;
@@ -50,12 +50,29 @@ impl Case {
         })
     }
 
-    /// The intervals of keys into which the parts are cut, by number.
+    /// The intervals of keys into which the parts are cut, as they are before any of them is split or
+    /// merged.
     pub fn intervals(&self) -> &Intervals
-        ensures all { result.now ≡ intervals_of self.now.topology }
-        ensures count { length result.now ≡ interval_count self.now.topology }
+        ensures first { result.now ≡ first_division self.now.topology }
     {
         &self.intervals
+    }
+
+    /// How many intervals the parts are cut into.
+    pub fn interval_count(&self) -> u32
+        ensures all { result ≡ length (intervals_of self.now.topology) }
+        ensures count { result ≡ interval_count self.now.topology }
+        ensures few { result ≤ 61 }
+    {
+        self.intervals.count()
+    }
+
+    /// The keys of the interval that has a number.
+    pub fn bounds(&self, interval: u32) -> &Bounds
+        requires there { interval < length (intervals_of self.now.topology) }
+        ensures at { slice_get (intervals_of self.now.topology) interval ≡ Some result.now }
+    {
+        self.intervals.bounds(interval)
     }
 
     /// The number of the interval in which a row lies, of a part that is there.
@@ -109,11 +126,11 @@ impl Case {
 
 // The intervals of a topology's cuts.
 fn intervals_in(alloc: Global, topology: &Topology) -> Result<Intervals, NoMemory>
-    ensures { IfOk result (λ all. all ≡ intervals_of topology.now) }
+    ensures { IfOk result (λ all. all ≡ first_division topology.now) }
 {
     // Every topology keeps the rules that intervals need.
     let _parts = topology.parts();
     let cuts = topology.part_cuts(alloc)?;
-    let intervals = Intervals::of(alloc, cuts.as_slice())?;
+    let intervals = Intervals::of(alloc, cuts.as_slice(), topology.injectors())?;
     Ok(intervals)
 }

@@ -59,7 +59,7 @@ impl Details {
             × (counts_of self.new ≡ with_entry p (counts_of self.old))) }
         ensures same { OnErr result (counts_of self.new ≡ counts_of self.old) }
     {
-        match self.numbers(&entry) {
+        match self.numbers(&EntryRef::of(&entry)) {
             Ok(Some(numbers)) => self.pack_by(entry, numbers),
             Ok(None) => self.pack_whole(entry),
             Err(want) => {
@@ -70,19 +70,19 @@ impl Details {
     }
 
     // The numbers of an entry, where they are below 2^32 and its row's name is short.
-    fn numbers(&mut self, entry: &Entry) -> Result<Option<Numbers>, NoMemory>
+    pub(crate) fn numbers(&mut self, entry: &EntryRef<'_>) -> Result<Option<Numbers>, NoMemory>
         ensures kept { KeepsDetails self.old self.new }
         ensures same { counts_of self.new ≡ counts_of self.old }
         ensures numbers { IfOk result (λ found.
-            IfSome found (HasNumbers self.new.names entry.now)) }
+            IfSome found (HasNumbers self.new.names (lent entry.now))) }
     {
-        match entry {
-            Entry::Claim { .. } => Ok(without_row(0)),
-            Entry::Inject { seq, .. } => Ok(without_row(*seq)),
-            Entry::Handle { seq, row, id, .. } => with_row(&mut self.names, *seq, row, id.commit),
-            Entry::Fire { seq, row, .. } => with_row(&mut self.names, *seq, row, 0),
-            Entry::Ack { seq, row, id } => with_row(&mut self.names, *seq, row, id.commit),
-            Entry::Purge { seq, row, floor } => with_row(&mut self.names, *seq, row, *floor),
+        match *entry {
+            EntryRef::Claim { .. } => Ok(without_row(0)),
+            EntryRef::Inject { seq, .. } => Ok(without_row(seq)),
+            EntryRef::Handle { seq, row, id, .. } => with_row(&mut self.names, seq, row, id.commit),
+            EntryRef::Fire { seq, row, .. } => with_row(&mut self.names, seq, row, 0),
+            EntryRef::Ack { seq, row, id } => with_row(&mut self.names, seq, row, id.commit),
+            EntryRef::Purge { seq, row, floor } => with_row(&mut self.names, seq, row, floor),
         }
     }
 
@@ -144,7 +144,7 @@ impl Details {
     }
 
     // Takes the record of an injected line.
-    fn pack_inject(
+    pub(crate) fn pack_inject(
         &mut self,
         seq: u32,
         part: u32,
@@ -168,7 +168,7 @@ impl Details {
     }
 
     // Takes what the handler of a record left, whose entry has these numbers.
-    fn pack_handle(
+    pub(crate) fn pack_handle(
         &mut self,
         numbers: Numbers,
         index: u32,
@@ -194,7 +194,7 @@ impl Details {
     }
 
     // Takes what the handler of a timer left, whose entry has these numbers.
-    fn pack_fire(
+    pub(crate) fn pack_fire(
         &mut self,
         numbers: Numbers,
         timer: Timer,
@@ -220,7 +220,7 @@ impl Details {
     }
 
     // Takes an entry as it is.
-    fn pack_whole(&mut self, entry: Entry) -> Result<Packed, NoMemory>
+    pub(crate) fn pack_whole(&mut self, entry: Entry) -> Result<Packed, NoMemory>
         ensures kept { KeepsDetails self.old self.new }
         ensures packed { IfOk result (λ p. IsPacked self.new p × (unpacked self.new p ≡ entry)) }
         ensures counted { IfOk result (λ p. IsNext (counts_of self.old) p

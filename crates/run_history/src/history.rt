@@ -1,6 +1,7 @@
 //! The list of what happened.
 ghost use Rattle.std.specs.Prelude.{◌≡◌, ◌++◌, ◌∷◌, ◌↔◌, ◌<◌, ◌-◌, ◌==◌, [], length, option_map, slice_get, slice_index_or, take, IfOk, OnErr, OnOk, IsSome, option_to_list};
 ghost use Rattle.run_history.specs.Lent.{lent};
+ghost use Rattle.run_history.specs.Packing.{HasName, IsLast, IsWithout, counts_of};
 
 use crate::details::Details;
 use crate::entry_ref::EntryRef;
@@ -74,11 +75,16 @@ impl History {
         ensures unchanged { OnErr result (self.new ≡ self.old) }
     {
         let packed = self.details.pack(entry)?;
-        if let Err(NoMemory) = self.entries.push(packed) {
-            drop(self.details.unpack(packed));
-            return Err(NoMemory);
-        }
-        Ok(())
+        append(&mut self.details, &mut self.entries, packed)
+    }
+
+    /// Appends what happened next, of which only what the history keeps is copied.
+    pub fn push_lent(&mut self, alloc: Global, entry: &EntryRef<'_>) -> Result<(), NoMemory>
+        ensures appended { OnOk result (self.new ≡ self.old ++ lent entry.now ∷ []) }
+        ensures unchanged { OnErr result (self.new ≡ self.old) }
+    {
+        let packed = self.details.pack_lent(alloc, entry)?;
+        append(&mut self.details, &mut self.entries, packed)
     }
 
     /// Takes the last entry away.
@@ -106,4 +112,20 @@ impl History {
     {
         self.entries.is_empty()
     }
+}
+
+// Appends an entry whose details are the last, which are taken away where memory ran out.
+fn append(details: &mut Details, entries: &mut Seq<Packed>, packed: Packed) -> Result<(), NoMemory>
+    requires name { HasName details.old.names packed }
+    requires last { IsLast (counts_of details.old) packed }
+    ensures appended { OnOk result
+        ((details.new ≡ details.old) × (entries.new ≡ entries.old ++ packed ∷ [])) }
+    ensures unchanged { OnErr result
+        (IsWithout packed details.old details.new × (entries.new ≡ entries.old)) }
+{
+    if let Err(NoMemory) = entries.push(packed) {
+        drop(details.unpack(packed));
+        return Err(NoMemory);
+    }
+    Ok(())
 }

@@ -17,6 +17,7 @@ mod entry_ref;
 mod entry_values;
 mod first;
 mod history;
+mod lent_packing;
 mod line;
 mod made;
 mod members;

@@ -32,6 +32,6 @@ pub(crate) fn put_back<K: Keeper>(book: &mut Book<'_, K>, marks: &[u64; 61])
 {
     let case = book.case();
     case_is_runnable(case);
-    let count = case.intervals().count() as usize;
+    let count = case.interval_count() as usize;
     book.put_marks(&marks[..count]);
 }

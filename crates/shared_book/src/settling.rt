@@ -140,7 +140,7 @@ fn fed_by<K: Keeper>(
     ensures least { result.1 ≡ least (feeding_marks book.now.case.topology interval marks.now) }
     ensures part { result.1 ≡ least_of book.now.case.topology marks.now result.0 }
 {
-    let part = book.case().intervals().bounds(interval).part;
+    let part = book.case().bounds(interval).part;
     if let Some(fed) = last {
         if fed.0 == part {
             return fed;
@@ -156,7 +156,7 @@ fn least_input<K: Keeper>(book: &Book<'_, K>, interval: u32, marks: &[u64; 61]) 
 {
     let case = book.case();
     case_is_runnable(case);
-    let count = case.intervals().count() as usize;
+    let count = case.interval_count() as usize;
     inputs(case, interval, &marks[..count])
 }
 

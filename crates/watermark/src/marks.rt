@@ -6,7 +6,6 @@ ghost use Rattle.run_history.specs.Cases.{intervals_of};
 ghost use Rattle.run_history.specs.Watermarks.{least};
 ghost use Rattle.watermark.specs.Marks.{feeding_marks, feeding_of, mark_of, numbers_in, marks_in, marks_of};
 
-use key_intervals::Intervals;
 use mw_types::{END, NoMemory, NumberList};
 use run_history::Case;
 use std::alloc::Global;
@@ -17,10 +16,9 @@ pub fn feeding(alloc: Global, case: &Case, interval: u32) -> Result<NumberList, 
     requires exists { interval < length (intervals_of case.now.topology) }
     ensures feeding { IfOk result (λ numbers. numbers ≡ feeding_of case.now.topology interval) }
 {
-    let intervals = case.intervals();
-    let part = intervals.bounds(interval).part;
+    let part = case.bounds(interval).part;
     let feeds = case.topology.feeds(part);
-    let numbers = numbers_in(alloc, intervals, feeds)?;
+    let numbers = numbers_in(alloc, case, feeds)?;
     Ok(numbers)
 }
 
@@ -31,7 +29,7 @@ pub fn low(case: &Case, part: u32, marks: &[u64]) -> u64
     ensures least { result ≡ least (marks_of case.now.topology part marks.now) }
     ensures some { 1 ≤ length (marks_of case.now.topology part marks.now) }
 {
-    low_in(case.intervals(), part, marks)
+    low_in(case, part, marks)
 }
 
 /// The least mark of the intervals that feed an interval, of a mark for each interval; the end where
@@ -41,20 +39,20 @@ pub fn inputs(case: &Case, interval: u32, marks: &[u64]) -> u64
     requires marks { length marks.now ≡ length (intervals_of case.now.topology) }
     ensures least { result ≡ least (feeding_marks case.now.topology interval marks.now) }
 {
-    let intervals = case.intervals();
-    let feeds = case.topology.feeds(intervals.bounds(interval).part);
-    least_among(intervals, feeds, marks)
+    let feeds = case.topology.feeds(case.bounds(interval).part);
+    least_among(case, feeds, marks)
 }
 
 // The least mark of the intervals of some parts.
-fn least_among(intervals: &Intervals, parts: &[u32], marks: &[u64]) -> u64
-    requires { length marks.now ≡ length intervals.now }
-    ensures { result ≡ least (map (mark_of marks.now) (numbers_in parts.now 0 intervals.now)) }
+fn least_among(case: &Case, parts: &[u32], marks: &[u64]) -> u64
+    requires { length marks.now ≡ length (intervals_of case.now.topology) }
+    ensures { let all = intervals_of case.now.topology in
+        result ≡ least (map (mark_of marks.now) (numbers_in parts.now 0 all)) }
 {
     let mut least = END;
-    for interval in 0..intervals.count() {
+    for interval in 0..case.interval_count() {
         let mark = mark_at(marks, interval);
-        if is_among(parts, intervals.bounds(interval).part) {
+        if is_among(parts, case.bounds(interval).part) {
             least = least.min(mark);
         }
     }
@@ -62,12 +60,13 @@ fn least_among(intervals: &Intervals, parts: &[u32], marks: &[u64]) -> u64
 }
 
 // The numbers of the intervals of some parts.
-fn numbers_in(alloc: Global, intervals: &Intervals, parts: &[u32]) -> Result<NumberList, NoMemory>
-    ensures { IfOk result (λ numbers. numbers ≡ numbers_in parts.now 0 intervals.now) }
+fn numbers_in(alloc: Global, case: &Case, parts: &[u32]) -> Result<NumberList, NoMemory>
+    ensures { let all = intervals_of case.now.topology in
+        IfOk result (λ numbers. numbers ≡ numbers_in parts.now 0 all) }
 {
     let mut numbers = NumberList::new(alloc);
-    for interval in 0..intervals.count() {
-        if is_among(parts, intervals.bounds(interval).part) {
+    for interval in 0..case.interval_count() {
+        if is_among(parts, case.bounds(interval).part) {
             numbers.push(interval)?;
         }
     }
@@ -82,14 +81,15 @@ fn is_among(parts: &[u32], part: u32) -> bool
 }
 
 // The least mark of the intervals of a part.
-fn low_in(intervals: &Intervals, part: u32, marks: &[u64]) -> u64
-    requires { length marks.now ≡ length intervals.now }
-    ensures { result ≡ least (marks_in intervals.now part marks.now) }
+fn low_in(case: &Case, part: u32, marks: &[u64]) -> u64
+    requires { length marks.now ≡ length (intervals_of case.now.topology) }
+    ensures { let all = intervals_of case.now.topology in
+        result ≡ least (marks_in all part marks.now) }
 {
     let mut low = END;
-    for interval in 0..intervals.count() {
+    for interval in 0..case.interval_count() {
         let mark = mark_at(marks, interval);
-        if intervals.bounds(interval).part == part {
+        if case.bounds(interval).part == part {
             low = low.min(mark);
         }
     }

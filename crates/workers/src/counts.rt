@@ -13,7 +13,7 @@ pub(crate) fn intervals_in(case: &Case) -> u32
     ensures few { result ≤ 61 }
 {
     let _parts = case.topology.parts();
-    case.intervals().count()
+    case.interval_count()
 }
 
 // How many parts there are.

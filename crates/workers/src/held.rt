@@ -23,7 +23,8 @@ pub(crate) fn held_in<N: Seen>(node: &Node<N>, case: &Case) -> u32
 pub(crate) fn is_of(case: &Case, interval: u32, part: u32) -> bool
     requires there { interval < interval_count case.now.topology }
 {
-    case.intervals().bounds(interval).part == part
+    let _count = case.interval_count();
+    case.bounds(interval).part == part
 }
 
 // Of how many intervals of a part it has a lease.

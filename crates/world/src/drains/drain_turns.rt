@@ -101,7 +101,7 @@ fn next_claim<'a, K: Keeper>(book: &Book<'a, K>, drain: &Drain) -> Option<u32>
     ensures past { result ≡ None → IsPastClaims book.now drain.now }
 {
     let claimed = book.history().len() as u64 - drain.from;
-    if claimed < u64::from(book.case().intervals().count()) {
+    if claimed < u64::from(book.case().interval_count()) {
         Some(claimed as u32)
     } else {
         None

@@ -54,7 +54,7 @@ pub(crate) fn report_all<'a, K: Keeper>(
         part: case.topology.parts(),
         most: END,
     };
-    for interval in 0..case.intervals().count() {
+    for interval in 0..case.interval_count() {
         fed = fed_at(book, interval, fed);
         report(alloc, book, held, interval, fed.most)?;
     }
@@ -71,7 +71,8 @@ fn fed_at<'a, K: Keeper>(book: &Book<'a, K>, interval: u32, last: Fed) -> Fed
         bounds.part ≡ result.part }
 {
     let case = book.case();
-    let part = case.intervals().bounds(interval).part;
+    let _count = case.interval_count();
+    let part = case.bounds(interval).part;
     if part == last.part {
         return last;
     }
@@ -100,7 +101,7 @@ fn report<'a, K: Keeper>(
     let case = book.case();
     // Every topology keeps the rules that intervals need.
     let _parts = case.topology.parts();
-    let _all = case.intervals();
+    let _count = case.interval_count();
     // A mark that has come up to those that feed its interval cannot rise.
     let mark = book.mark(interval);
     if most <= mark {
@@ -127,7 +128,7 @@ fn raise<'a, K: Keeper>(
     let case = book.case();
     // Every topology keeps the rules that intervals need.
     let _parts = case.topology.parts();
-    let _all = case.intervals();
+    let _count = case.interval_count();
     let mut desk = OwnDesk { book };
     desk.sound();
     let reported = report_work(held, alloc, &mut desk, case, interval);

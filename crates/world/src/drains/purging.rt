@@ -39,7 +39,7 @@ pub(crate) fn purge_first<'a, K: Keeper>(
     // Its clauses say what always holds of a book.
     book.history();
     let case = book.case();
-    for interval in 0..case.intervals().count() {
+    for interval in 0..case.interval_count() {
         let more = purge(alloc, book, held, interval)?;
         if more {
             return Ok(true);

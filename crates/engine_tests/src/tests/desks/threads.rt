@@ -126,7 +126,7 @@ fn at_desk<K: Keeper, R: Wait + Abort>(
     ensures rest { let table = shared.now.table.shared in let v = seat.old.place.me.0 in
         IsAtRest table.table_id shared.now.case.now v.basis.seats v.numbers seat.new.place }
 {
-    if case.intervals().count() <= part {
+    if case.interval_count() <= part {
         rt.panic("no such part")
     }
     let mut desk = SharedDesk::on(&*shared, seat);

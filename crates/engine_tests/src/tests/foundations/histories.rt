@@ -46,7 +46,7 @@ fn is_empty(rt: &impl Abort, alloc: Global, case: &Case) -> bool {
 // nothing is printed. No other function has a case of its own, since each that has is slow to prove.
 fn is_empty_run(rt: &impl Abort, alloc: Global) -> bool {
     let case = case_of(rt, alloc, made(rt, Topology::one_count(alloc, 60)));
-    let is_cut = case.intervals().count() == 2;
+    let is_cut = case.interval_count() == 2;
     let is_empty = is_empty(rt, alloc, &case);
     drop(case);
     is_cut && is_empty

@@ -149,7 +149,7 @@ impl DoneWith<Case> for Asked {
     // Whether a case answers so. An interval and a part that it is asked of are there, and so is a mark for each
     // interval.
     fn is_done<R: Abort>(&self, rt: &R, alloc: Global, case: &mut Case) -> bool {
-        let count = case.intervals().count();
+        let count = case.interval_count();
         match self {
             Asked::Of(text) => {
                 let topology = made(rt, read(alloc, text.as_bytes()));

@@ -10,7 +10,7 @@ use Rattle.node.proofs.fires.first_of_part.Goals as goal
 -- with one interval more
 pub loop-interval-preserved : goal.loop-interval-preserved
 loop-interval-preserved c =
-    let intervals = c.intervals-intervals.result.now in
+    let intervals = intervals_of c.args.case.now.topology in
     let all = c.args.held.now in
     let part = c.args.part in
     let i = c.loop-interval.interval in
@@ -31,5 +31,4 @@ returns-clause-first c =
     let part = c.args.part in
     let last : c.loop-interval.interval ≡ length intervals = search (rules, arith) in
     subst (λ n. IsLeastTimerBelow intervals all part n c.loop-interval.first) last
-    (subst (λ (bs : List Bounds). IsLeastTimerBelow bs all part c.loop-interval.interval c.loop-interval.first)
-    c.intervals-intervals.ensures.all c.loop-interval.invariant.so_far)
+    c.loop-interval.invariant.so_far

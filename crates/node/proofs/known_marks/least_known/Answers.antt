@@ -14,7 +14,7 @@ loop-interval-preserved g c =
     let new = g.D.Desk.view c.lesser-least.new.desk in
     let so_far = c.loop-interval.invariant in
     let more = c.lesser-least.ensures in record {
-      so_far = least-step c.intervals-intervals.result.now c.args.part old.marks mid.marks new.marks c.bounds.result.now
+      so_far = least-step (intervals_of c.args.case.now.topology) c.args.part old.marks mid.marks new.marks c.bounds.result.now
           c.loop-interval.interval c.loop-interval.least c.lesser-least.result c.bounds.ensures.at so_far.marks.rise more.marks.rise
           so_far.so_far more.lesser;
       looked = looked_twice old mid new so_far.looked more.looked;
@@ -38,5 +38,4 @@ returns-clause-known g c =
     (c.sound-2.ensures.sound.marks ∙ ap (λ (k : CaseShape). length (intervals_of k.topology))
     (c.loop-interval.invariant.looked.case ∙ c.requires.case))
     (subst (λ (n : ℕ). IsLeastSoFar (intervals_of shape) c.args.part old.marks new.marks c.loop-interval.least n) last
-    (subst (λ (all : List Bounds). IsLeastSoFar all c.args.part old.marks new.marks c.loop-interval.least c.loop-interval.interval)
-    c.intervals-intervals.ensures.all c.loop-interval.invariant.so_far))
+    c.loop-interval.invariant.so_far)

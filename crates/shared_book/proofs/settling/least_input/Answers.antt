@@ -9,7 +9,7 @@ pub returns : goal.returns
 returns g c =
     let shape = c.args.book.now.case.topology in
     c.inputs.ensures.least
-    ∙ ap (λ (k : CaseShape). least (feeding_marks k.topology c.args.interval (take c.count-count.result c.args.marks.now))) c.case-case.ensures.case
-    ∙ ap least (feeding-front shape c.args.interval c.count-count.result c.args.marks.now
-    (c.count-count.ensures.count ∙ ap length c.intervals.ensures.all
+    ∙ ap (λ (k : CaseShape). least (feeding_marks k.topology c.args.interval (take c.interval_count-count.result c.args.marks.now))) c.case-case.ensures.case
+    ∙ ap least (feeding-front shape c.args.interval c.interval_count-count.result c.args.marks.now
+    (c.interval_count-count.ensures.all
     ∙ ap (λ (k : CaseShape). length (intervals_of k.topology)) c.case-case.ensures.case))

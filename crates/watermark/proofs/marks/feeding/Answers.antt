@@ -1,4 +1,4 @@
-use Rattle.std.proofs.Common.{◌∙◌, ◌<◌, slice_get, subst, sym, ap}
+use Rattle.std.proofs.Common.{◌<◌, subst, sym, ap}
 use Rattle.topology.specs.Shapes.{Shape, parts_of}
 use Rattle.run_history.specs.Cases.{CaseShape}
 use Rattle.watermark.proofs.Parts.{part_within}
@@ -7,5 +7,4 @@ use Rattle.watermark.proofs.marks.feeding.Goals as goal
 pub feeds-feeds-requires : goal.feeds-feeds-requires
 feeds-feeds-requires c =
     subst (λ (shape : Shape). c.bounds.result.now.part < parts_of shape) (sym (ap (λ (case : CaseShape). case.topology) c.case.view_is))
-    (part_within c.args.case.now.topology c.args.interval c.bounds.result.now
-    (ap (λ l. slice_get l c.args.interval) (sym c.intervals-intervals.ensures.all) ∙ c.bounds.ensures.at))
+    (part_within c.args.case.now.topology c.args.interval c.bounds.result.now c.bounds.ensures.at)

@@ -1,4 +1,5 @@
 use Rattle.std.proofs.Common.{◌∙◌, ◌++◌, ◌+◌, drop, ap, sym}
+use Rattle.run_history.specs.Cases.{intervals_of}
 use Rattle.watermark.specs.Marks.{numbers_in}
 use Rattle.watermark.proofs.Steps.{numbers_step_yes, numbers_step_no}
 use Rattle.watermark.proofs.marks.numbers_in.Goals as goal
@@ -7,7 +8,7 @@ use Rattle.watermark.proofs.marks.numbers_in.Goals.{then-is_among+in_ok-push, el
 pub loop-interval-preserved : goal.loop-interval-preserved
 loop-interval-preserved c =
     let parts = c.args.parts.now in
-    let all = c.args.intervals.now in
+    let all = intervals_of c.args.case.now.topology in
     let at = c.loop-interval.interval in
     let left = numbers_in parts (at + 1) (drop (at + 1) all) in
     elim c.if-is_among.branch [

@@ -4,6 +4,7 @@ use Rattle.std.specs.Ordering.{nat_cmp}
 use Rattle.std.specs.BTreeMap.{get}
 use Rattle.row_parts.specs.Spelling.{spelling_of}
 use Rattle.row_keeper.specs.Rows.{with_row}
+use Rattle.run_history.specs.Lent.{lent}
 use Rattle.book.specs.Appending.{left_row}
 use Rattle.book.specs.Books.{CoreView}
 use Rattle.book.specs.Sending.{IsUnsent}
@@ -13,7 +14,7 @@ use Rattle.book.proofs.book_core.Core.append.Goals as goal
 -- an entry on a row is no claim
 pub invariant_of-self-2 : goal.invariant_of-self-2
 invariant_of-self-2 g c =
-    KnowsClaims-row (get nat_cmp c.self.inside.sequencers) c.self.inside.history c.note.new.history c.args.entry c.args.name.now
+    KnowsClaims-row (get nat_cmp c.self.inside.sequencers) c.self.inside.history c.note.new.history (lent c.args.entry.now) c.args.name.now
     c.self.invariant c.requires.on_row c.in_ok-note.ensures.appended
 
 -- no id of the entry that comes is known

@@ -2,6 +2,7 @@ use Rattle.std.proofs.Common.{◌≡◌, ◌++◌, ◌∷◌, [], List, subst, s
 use Rattle.std.specs.Prelude.{IfSome}
 use Rattle.run_history.specs.Runs.{run_of}
 use Rattle.mw_types.specs.declared.entry.Entry.{Entry}
+use Rattle.run_history.specs.Lent.{lent}
 use Rattle.book.specs.Books.{BookView, core_of}
 use Rattle.book.specs.Appending.{IsNext, LeavesWork, left_row, sent_by}
 use Rattle.book.specs.Conditions.{IsRowOf}
@@ -19,9 +20,9 @@ invariant_of-self g c =
     let was = subst (λ (b : BookView). LeavesWork b c.args.name.now left c.args.left) (sym c.self.view_is) c.requires.left in
     elim c.match-append.branch [
       | in-Ok w ↦
-          IsLawful-next c.self.inside.case.now c.self.inside.core c.append.new.self c.args.name.now c.args.entry was.0 left
+          IsLawful-next c.self.inside.case.now c.self.inside.core c.append.new.self c.args.name.now (lent c.args.entry.now) was.0 left
           c.self.invariant
-          (subst (λ (b : BookView). IsNext b.case (core_of b) c.args.name.now c.args.entry left) (sym c.self.view_is)
+          (subst (λ (b : BookView). IsNext b.case (core_of b) c.args.name.now (lent c.args.entry.now) left) (sym c.self.view_is)
           c.requires.next)
           w.in-Ok.ensures.own
           was.1.0
@@ -32,9 +33,9 @@ invariant_of-self g c =
           (subst (λ (h : List Entry). AreSenders c.self.inside.case.now.topology
           (run_of c.self.inside.case.now.topology h) c.append.new.self.unacknowledged)
           (sym w.in-Ok.ensures.appended)
-          (senders-next c.self.inside.case.now.topology c.self.inside.core.history c.args.entry c.args.name.now c.args.sent
+          (senders-next c.self.inside.case.now.topology c.self.inside.core.history (lent c.args.entry.now) c.args.name.now c.args.sent
           c.self.inside.core.unacknowledged c.append.new.self.unacknowledged c.requires.next.on_row
-          (subst (λ (b : BookView). c.args.sent ≡ sent_by b.case.topology b.history c.args.entry) (sym c.self.view_is) c.requires.sent)
+          (subst (λ (b : BookView). c.args.sent ≡ sent_by b.case.topology b.history (lent c.args.entry.now)) (sym c.self.view_is) c.requires.sent)
           c.self.invariant.senders w.in-Ok.ensures.senders))
           c.append.ensures.marks
       | in-Err w ↦
@@ -59,8 +60,8 @@ append-requires-clause-held g c =
 -- the keeper has the bytes of the row before a line's deliveries came
 pub append-requires-clause-shorter : goal.append-requires-clause-shorter
 append-requires-clause-shorter g c =
-    grown-held c.args.settled c.args.entry c.args.sent c.self.inside.case.now c.self.inside.core.history c.self.inside.core.rows
+    grown-held c.args.settled (lent c.args.entry.now) c.args.sent c.self.inside.case.now c.self.inside.core.history c.self.inside.core.rows
     c.args.name.now c.args.row.now c.self.invariant.held c.requires.next.on_row
-    (subst (λ (b : BookView). IsRowOf b.case b.rows (b.history ++ c.args.entry ∷ []) c.args.name.now
+    (subst (λ (b : BookView). IsRowOf b.case b.rows (b.history ++ (lent c.args.entry.now) ∷ []) c.args.name.now
     (left_row c.args.settled c.args.row.now)) (sym c.self.view_is) c.requires.next.of_history)
-    (subst (λ (b : BookView). c.args.sent ≡ sent_by b.case.topology b.history c.args.entry) (sym c.self.view_is) c.requires.sent)
+    (subst (λ (b : BookView). c.args.sent ≡ sent_by b.case.topology b.history (lent c.args.entry.now)) (sym c.self.view_is) c.requires.sent)

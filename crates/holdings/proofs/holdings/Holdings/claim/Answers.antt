@@ -28,7 +28,7 @@ returns-clause-fits g c =
     let left : HeldView = record { lease = answer.lease; rows = c.of-rows.result } in
     AreAllHeld-claimed c.args.case.now (g.D.Desk.view c.args.desk.now) (g.D.Desk.view c.claim-claimed.new.self) c.args.worker interval
     c.bounds-bounds.result.now answer c.requires.case c.sound.ensures.sound c.sound-2.ensures.sound
-    (sym (ap (λ (l : List Bounds). slice_get l interval) c.intervals.ensures.all) ∙ c.bounds-bounds.ensures.at)
+    c.bounds-bounds.ensures.at
     c.in_ok-lease.ensures.claimed c.args.self.now c.hold.new.self
     (ap (λ (l : List (Option HeldView)). held_at l interval) c.hold.ensures
     ∙ held-here places interval (Some left) c.in_ok-make_room.ensures.room

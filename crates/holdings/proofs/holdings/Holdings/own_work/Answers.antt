@@ -27,7 +27,7 @@ returns-clause-exact g c =
     let oldest : IsOldest case bounds.part held own =
     subst (λ (o : Option HeldView). IfSome o (λ h. IsOldest case bounds.part h own)) at work in
     let bounds_is : bounds ≡ b = some_same bounds b
-    (sym c.bounds.ensures.at ∙ ap (λ (l : List Bounds). slice_get l c.args.interval) c.intervals.ensures.all ∙ is) in
+    (sym c.bounds.ensures.at ∙ is) in
     own_work-held case (g.D.Desk.view c.args.desk.now) c.args.interval held b (c.requires.fits.each c.args.interval held at) is own
     (subst (λ (k : Bounds). IsOldest case k.part held own) bounds_is oldest))
     c.oldest.ensures.own
@@ -48,7 +48,7 @@ returns-clause-own g c =
     let here : slice_get (intervals_of case.topology) c.args.interval ≡ Some b =
     ap (slice_get (intervals_of case.topology)) (sym fits.of_interval) ∙ at in
     let bounds_is : bounds ≡ b = some_same bounds b
-    (sym c.bounds.ensures.at ∙ ap (λ (l : List Bounds). slice_get l c.args.interval) c.intervals.ensures.all ∙ here) in
+    (sym c.bounds.ensures.at ∙ here) in
     own_work-known case desk c.args.interval held b fits here
     (subst (λ (x : CaseShape). IsTopology x.topology) c.requires.case c.sound.ensures.sound.runnable.topology) own
     (own_work-held case desk c.args.interval held b fits here own

@@ -1,9 +1,10 @@
-use Rattle.std.proofs.Common.{◌≡◌, ◌∙◌, ◌<◌, [], List, All, Any, length, ap, subst, sym, zero-add, arith}
+use Rattle.std.proofs.Common.{◌≡◌, ◌∙◌, [], List, All, length, map, ap, subst, sym, arith}
+use Rattle.std.proofs.lemmas.List.{length-map}
 use Rattle.std.proofs.lemmas.List.Elements.{All-weaker}
 use Rattle.mw_types.specs.declared.key.PartCuts.{PartCuts}
-use Rattle.key_intervals.specs.declared.bounds.Bounds.{Bounds}
 use Rattle.key_intervals.specs.Intervals.{bounds_of, DivideKeys}
-use Rattle.key_intervals.proofs.Made.{no_cuts, length-bounds_of, has_part}
+use Rattle.key_intervals.specs.Division.{fresh}
+use Rattle.key_intervals.proofs.Made.{no_cuts, length-bounds_of}
 use Rattle.engine_tests.proofs.tests.foundations.intervals.whole_intervals.Goals as goal
 
 all_cut : (parts : List PartCuts) → All (λ (p : PartCuts). p.cuts ≡ []) parts → All (λ (p : PartCuts). DivideKeys p.cuts) parts
@@ -23,14 +24,10 @@ of-requires-clause-few c = omega (
 )
 
 pub returns-clause-parts : goal.returns-clause-parts
-returns-clause-parts c k l =
-    let all = c.in_ok-intervals.ensures.all ∙ ap bounds_of c.as_slice.ensures.elements in
-    let short : k < length c.in_ok-parts.parts = omega (arith, c.in_ok-parts.ensures.count) in
-    subst (Any (λ (b : Bounds). b.part ≡ k)) (sym all)
-    (subst (λ part. Any (λ (b : Bounds). b.part ≡ part) (bounds_of c.in_ok-parts.parts)) (zero-add k)
-    (has_part c.in_ok-parts.parts 0 k c.in_ok-parts.ensures.numbered short))
+returns-clause-parts c =
+    c.in_ok-intervals.ensures.parts ∙ ap length c.as_slice.ensures.elements ∙ c.in_ok-parts.ensures.count
 
 pub returns-clause-count : goal.returns-clause-count
 returns-clause-count c =
-    ap length (c.in_ok-intervals.ensures.all ∙ ap bounds_of c.as_slice.ensures.elements) ∙ length-bounds_of _ c.in_ok-parts.ensures.whole
-    ∙ c.in_ok-parts.ensures.count
+    ap length (c.in_ok-intervals.ensures.all ∙ ap (λ ps. map fresh (bounds_of ps)) c.as_slice.ensures.elements)
+    ∙ length-map (bounds_of c.in_ok-parts.parts) fresh ∙ length-bounds_of _ c.in_ok-parts.ensures.whole ∙ c.in_ok-parts.ensures.count

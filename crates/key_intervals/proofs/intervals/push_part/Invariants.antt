@@ -1,9 +1,0 @@
-use Rattle.std.proofs.Common.{◌≡◌, ◌++◌, drop, []}
-use Rattle.key_intervals.specs.Intervals.{bounds_from}
-use Rattle.key_intervals.proofs.intervals.push_part.Given as goal
-
--- what is there and what is left to append are together the intervals of the part
-abbrev pub invariant-loop-cut : goal.invariant-loop-cut
-invariant-loop-cut l =
-    l.initial.all.items ++ bounds_from l.part.part [] l.part.cuts
-    ≡ l.all.items ++ bounds_from l.part.part l.from (drop l.cut-index l.part.cuts)
