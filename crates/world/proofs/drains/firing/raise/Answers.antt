@@ -1,7 +1,8 @@
-use Rattle.std.proofs.Common.{◌≡◌, refl, rules, subst, sym}
-use Rattle.std.specs.Prelude.{IsSome, Some}
+use Rattle.std.proofs.Common.{refl, rules, subst, sym}
+use Rattle.std.specs.Prelude.{IsSome, List, Option}
+use Rattle.run_history.specs.Cases.{CaseShape}
 use Rattle.topology.specs.Rules.{IsTopology}
-use Rattle.holdings.specs.Holding.{held_at}
+use Rattle.holdings.specs.Holding.{HeldView}
 use Rattle.outbox.specs.Reports.{IsReportOf}
 use Rattle.book.specs.OwnDesks.{own_view}
 use Rattle.world.specs.drains.Turns.{HasFailed, HasReported, HasStepped, IsAtWork, WhereTold, worker_of}
@@ -25,9 +26,10 @@ pub returns-in-Ok-clause-at_work : goal.returns-in-Ok-clause-at_work
 returns-in-Ok-clause-at_work g c =
     let old = c.args.book.now in
     let new = c.report_work-reported.new.desk.book.now in
-    let at : IsAtWork new (worker_of c.args.held.now) =
-    at_work-looked old new c.args.held.now c.requires.at_work c.sound.ensures.sound c.sound-2.ensures.sound
-    c.report_work-reported.ensures.looked in search rules
+    let at : IsAtWork new (worker_of c.report_work-reported.new.held) =
+    subst (λ (all : List (Option HeldView)). IsAtWork new (worker_of all)) (sym c.report_work-reported.ensures.same)
+    (at_work-looked old new c.args.held.now c.requires.at_work c.sound.ensures.sound c.sound-2.ensures.sound
+    c.report_work-reported.ensures.looked) in search rules
 
 -- where told the mark is as the report leaves it
 pub returns-in-Ok-clause-reported : goal.returns-in-Ok-clause-reported
@@ -37,7 +39,7 @@ returns-in-Ok-clause-reported g c =
     let all = c.args.held.now in
     let rules_there : IsTopology old.case.topology = search rules in
     let last = c.requires.at_work.each c.args.interval c.requires.there in
-    let report = subst (λ k. IsReportOf k (own_view old) (own_view new) c.args.interval last.held c.in-Ok.field-0) c.case-case.ensures.case
+    let report = subst (λ (k : CaseShape). IsReportOf k (own_view old) (own_view new) c.args.interval last.held c.in-Ok.field-0) c.case-case.ensures.case
     (if-held (λ here. IsReportOf c.case-case.result.now (own_view old) (own_view new) c.args.interval here c.in-Ok.field-0) all
     c.args.interval last.held last.there c.in-Ok.ensures.reported) in
     let reported : WhereTold old (HasReported old new c.args.interval) =

@@ -36,4 +36,4 @@ returns-clause-asked g c =
     ok-then c.put-written.result (λ unit done. line-asked book new all name.part c.args.line interval next
     (subst (λ (n : RowName). interval_of book.case.topology n ≡ Some interval) c.requires.name covers)
     (subst (λ (n : RowName). IfSome (held_at all interval) (λ here. HasProposed book new here.lease.seq n (proposals.Inject c.args.line)))
-    c.requires.name done)) (search rules)
+    c.requires.name done)) c.put-written.ensures.put

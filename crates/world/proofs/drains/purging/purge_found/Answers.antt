@@ -1,8 +1,10 @@
 use Rattle.std.proofs.Common.{rules}
-use Rattle.std.specs.Prelude.{None, Some}
+use Rattle.std.specs.Prelude.{IfSome, None, OnOk, Some}
+use Rattle.mw_types.specs.declared.entry.Entry.TheVariants.{Purge}
+use Rattle.holdings.specs.Holding.{held_at}
 use Rattle.node.specs.Asking.{MayAskPurge}
 use Rattle.node.specs.PurgeSteps.{IsToPurge}
-use Rattle.world.specs.drains.Turns.{worker_of}
+use Rattle.world.specs.drains.Turns.{HasStepped, worker_of}
 use Rattle.world.proofs.drains.CallLaws.{asked-none, first-may, purge-asked, purge-known}
 use Rattle.world.proofs.Results.{err-any}
 use Rattle.world.proofs.drains.purging.purge_found.Goals as goal
@@ -36,6 +38,8 @@ pub returns-in_ok-purged-in-Some-clause-asked : goal.returns-in_ok-purged-in-Som
 returns-in_ok-purged-in-Some-clause-asked g c =
     let first : IsToPurge c.args.book.now.case.topology (worker_of c.args.held.now) c.args.interval 1 c.args.floor (Some c.in-Some.name) =
     search rules in
+    let done : OnOk c.put-purged.result (IfSome (held_at c.args.held.now c.args.interval) (λ here. HasStepped c.args.book.now
+    c.put-purged.new.book (Some (Purge here.lease.seq c.in-Some.name c.args.floor)))) = c.put-purged.ensures.put in
     purge-asked c.args.book.now c.put-purged.new.book c.args.held.now c.in-Some.name c.args.interval c.args.floor first
     (search rules)
 

@@ -1,6 +1,9 @@
-use Rattle.std.proofs.Common.{rules}
+use Rattle.std.proofs.Common.{rules, subst, sym}
 use Rattle.std.specs.Prelude.{IfSome}
-use Rattle.holdings.specs.Holding.{held_at}
+use Rattle.run_history.specs.Cases.{CaseShape}
+use Rattle.book.specs.OwnDesks.{own_view}
+use Rattle.book.specs.Writings.{MayPut}
+use Rattle.holdings.specs.Holding.{held_at, row_held}
 use Rattle.world.specs.drains.Turns.{HasFailed, HasPutOwn, IsAtWork, worker_of}
 use Rattle.world.proofs.drains.HeldLaws.{failed-held, held-some, put-at_work, put-held, refusal-held}
 use Rattle.world.proofs.drains.writes.put.Goals as goal
@@ -9,6 +12,12 @@ use Rattle.world.proofs.drains.writes.put.Goals as goal
 pub put-requires-clause-there : goal.put-requires-clause-there
 put-requires-clause-there g c =
     held-some c.args.book.now c.args.held.now c.args.name.now c.args.interval c.requires.at_work c.requires.covers
+
+-- what was asked of the row is true of it
+pub put-requires-clause-may : goal.put-requires-clause-may
+put-requires-clause-may g c = subst (λ (k : CaseShape). IfSome (held_at c.args.held.now c.args.interval)
+    (λ here. MayPut (own_view c.args.book.now) c.args.name.now (row_held k.topology here c.args.name.now) c.args.writing))
+    (sym c.case-case.ensures.case) c.requires.may
 
 -- what was written is there
 pub returns-in-Ok-clause-put : goal.returns-in-Ok-clause-put
