@@ -190,17 +190,6 @@ ack-not book all to id none =
     (sym (ack-none book.case.topology (worker_of all) to id (some-none (sent_at book.case.topology (worker_of all) to id) none)))
     (record { stepped = stepped-not book; is_more = refl })
 
--- nor of one that is not held
-pub ack-unheld : (book : BookView) (all : List (Option HeldView)) (to : RowName) (id : RecordId) (interval : ℕ)
-    → interval_of book.case.topology to ≡ Some interval → held_at all interval ≡ None
-    → HasAsked book book (settle_asked book.case.topology (worker_of all) to id) false
-ack-unheld book all to id interval covers none =
-    let shape = book.case.topology in
-    subst (λ (o : Option Request). HasAsked book book o false)
-    (sym (ap (λ (o : Option ℕ). option_and_then (settling shape to id) (option_and_then (held_at all) o)) covers
-    ∙ ap (option_and_then (settling shape to id)) none))
-    (record { stepped = stepped-not book; is_more = refl })
-
 -- ---- purges
 
 -- what a row may be asked to forget is under its lease

@@ -10,14 +10,14 @@ ghost use Rattle.run_history.specs.Lent.{lent};
 ghost use Rattle.run_history.specs.Runs.{cached, row_in, run_of};
 ghost use Rattle.book.specs.Desking.{IsKnownOf};
 ghost use Rattle.book.specs.OwnDesks.{own_view};
-ghost use Rattle.book.specs.Proposals.{IsHandling};
+ghost use Rattle.book.specs.Proposals.{IsHandling, IsProposable};
 ghost use Rattle.book.specs.Senders.{IsLeastSent};
 ghost use Rattle.book.specs.declared.proposal.Proposal.TheVariants as proposals;
 ghost use Rattle.holdings.specs.Holding.{HeldView, held_at, row_held};
 ghost use Rattle.node.specs.Asking.{MayAskForget, settle_asked};
 ghost use Rattle.node.specs.Works.{IsWorkOf};
 ghost use Rattle.world.specs.drains.Standings.{IsFound, StandsIn};
-ghost use Rattle.world.specs.drains.Turns.{CanBeKept, HasAsked, HasAskedOne, HasFailed, HasHandled, HasTurned, IsAtWork, WhereTold, is_full_at, sent_at, worker_of};
+ghost use Rattle.world.specs.drains.Turns.{CanBeKept, HasAsked, HasAskedOne, HasFailed, HasHandled, HasProposed, HasTurned, IsAtWork, WhereTold, is_full_at, sent_at, worker_of};
 
 use crate::drains::standing::{Standing, standing_of};
 use crate::drains::writes::put;
@@ -305,14 +305,41 @@ fn handle<'a, K: Keeper>(
     let proposal = Proposal::Handle { delivery, effects };
     let written = match &proposal {
         Proposal::Handle { delivery, .. } => {
-            let writing = Writing::Propose {
-                proposal: &proposal,
-            };
-            put(alloc, book, held, interval, &delivery.to, writing)
+            write(alloc, book, held, interval, &delivery.to, &proposal)
         }
         _ => unreachable!(),
     };
     drop(proposal);
     written?;
     Ok(true)
+}
+
+// Writes what is proposed of a row.
+fn write<'a, K: Keeper>(
+    alloc: Global,
+    book: &mut Book<'a, K>,
+    held: &mut Holdings,
+    interval: u32,
+    name: &RowName,
+    proposal: &Proposal,
+) -> Result<(), NodeFault>
+    requires at_work { IsAtWork book.old (worker_of held.old) }
+    requires covers { interval_of book.old.case.topology name.now ≡ Some interval }
+    requires part { name.now.part < parts_of book.old.case.topology }
+    requires proposal { let shape = book.old.case.topology in IfSome (held_at held.old interval)
+        (λ here. IsProposable book.old.case name.now (row_held shape here name.now) proposal.now) }
+    requires known { IsKnownOf (own_view book.old) name.now proposal.now }
+    ensures written { OnOk result (IfSome (held_at held.old interval)
+        (λ here. HasProposed book.old book.new here.lease.seq name.now proposal.now)) }
+    ensures at_work { OnOk result (IsAtWork book.new (worker_of held.new)) }
+    ensures failed { IfErr result (HasFailed book.old book.new) }
+{
+    put(
+        alloc,
+        book,
+        held,
+        interval,
+        name,
+        Writing::Propose { proposal },
+    )
 }

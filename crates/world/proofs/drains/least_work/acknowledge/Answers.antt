@@ -1,17 +1,11 @@
 use Rattle.std.proofs.Common.{◌≡◌, false, rules, true}
 use Rattle.std.specs.Option.{is_some}
-use Rattle.std.specs.Prelude.{None, Some}
+use Rattle.std.specs.Prelude.{Some}
 use Rattle.holdings.specs.Holding.{held_at}
 use Rattle.world.specs.drains.Turns.{sent_at, worker_of}
-use Rattle.world.proofs.drains.CallLaws.{ack-asked, ack-not, ack-unheld, may-settle}
+use Rattle.world.proofs.drains.CallLaws.{ack-asked, ack-not, may-settle}
 use Rattle.world.proofs.drains.HeldLaws.{sent-here}
 use Rattle.world.proofs.drains.least_work.acknowledge.Goals as goal
-
--- nothing is held
-pub returns-in-None-clause-asked : goal.returns-in-None-clause-asked
-returns-in-None-clause-asked g c =
-    let none : held_at c.args.held.now c.args.interval ≡ None = search rules in
-    ack-unheld c.args.book.now c.args.held.now c.args.sender.now c.args.id c.args.interval c.requires.covers none
 
 -- nothing is pending
 pub returns-then-not-is_pending-clause-asked : goal.returns-then-not-is_pending-clause-asked
