@@ -166,7 +166,11 @@ fn split_at_d(rt: &impl Abort, alloc: Global) -> Intervals
     let cut = key_of(rt, alloc, "d");
     let first = made(rt, intervals.split(alloc, 1, &cut));
     drop(cut);
-    must(rt, first == 5 && intervals.count() == 7, "the numbers of a split");
+    must(
+        rt,
+        first == 5 && intervals.count() == 7,
+        "the numbers of a split",
+    );
     intervals
 }
 
@@ -176,7 +180,11 @@ fn merged_again(rt: &impl Abort, alloc: Global) -> Intervals
 {
     let mut intervals = split_at_d(rt, alloc);
     let first = made(rt, intervals.merge(alloc, 5, 6));
-    must(rt, first == 7 && intervals.count() == 8, "the number of a merge");
+    must(
+        rt,
+        first == 7 && intervals.count() == 8,
+        "the number of a merge",
+    );
     intervals
 }
 
